@@ -1,0 +1,4 @@
+pub mod Name
+pub mod NameOf
+pub mod NameText
+pub mod Number

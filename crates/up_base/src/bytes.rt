@@ -1,0 +1,64 @@
+ghost use Rattle.std.specs.Prelude.{◌≡◌, ◌++◌, [], ◌∷◌, IfOk, OnOk, OnErr};
+
+use crate::NoMemory;
+use std::alloc::Global;
+use std::marker::Model;
+
+/// A list of bytes that can grow.
+#[derive(Debug, Drop)]
+pub struct Bytes {
+    run: Vec<u8>,
+}
+
+impl Model for Bytes {
+    ghost use Rattle.std.specs.Prelude.{List, ℕ};
+
+    ghost Value = { List ℕ };
+
+    ghost view = { λ bytes. bytes.run.items };
+}
+
+impl Bytes {
+    /// No bytes. Nothing is allocated before the first of them.
+    pub fn new(alloc: Global) -> Bytes
+        ensures { result ≡ [] }
+    {
+        Bytes {
+            run: Vec::new(alloc),
+        }
+    }
+
+    /// A copy of these bytes.
+    pub fn from_slice(alloc: Global, b: &[u8]) -> Result<Bytes, NoMemory>
+        ensures { IfOk result (λ bytes. bytes ≡ b.now) }
+    {
+        Ok(Bytes {
+            run: Vec::from_slice(alloc, b)?,
+        })
+    }
+
+    /// Adds one byte at the end.
+    pub fn push(&mut self, b: u8) -> Result<(), NoMemory>
+        ensures added { OnOk result (self.new ≡ self.old ++ b ∷ []) }
+        ensures unchanged { OnErr result (self.new ≡ self.old) }
+    {
+        self.run.push(b)?;
+        Ok(())
+    }
+
+    /// Adds these bytes at the end.
+    pub fn append(&mut self, b: &[u8]) -> Result<(), NoMemory>
+        ensures added { OnOk result (self.new ≡ self.old ++ b.now) }
+        ensures unchanged { OnErr result (self.new ≡ self.old) }
+    {
+        self.run.extend_from_slice(b)?;
+        Ok(())
+    }
+
+    /// The bytes.
+    pub fn as_slice(&self) -> &[u8]
+        ensures { result.now ≡ self.now }
+    {
+        &self.run
+    }
+}

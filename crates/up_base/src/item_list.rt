@@ -1,0 +1,84 @@
+ghost use Rattle.std.specs.Prelude.{◌≡◌, ◌<◌, [], ◌∷◌, ◌++◌, length, slice_get, Some, IfErr, OnErr, OnOk, MatchOption};
+
+use std::alloc::Global;
+use std::collections::VecDeque;
+use std::marker::Model;
+
+/// No memory was found to keep a value, which is handed back.
+#[derive(Debug, Drop)]
+pub struct NoRoom<T> {
+    pub back: T,
+}
+
+/// Items in order. An item need not be one that can be dropped: then it is taken out by `next`, and the empty list is
+/// given up by `end`.
+#[derive(Debug, Drop)]
+pub struct ItemList<T> {
+    queue: VecDeque<T>,
+}
+
+impl<T> Model for ItemList<T> {
+    ghost use Rattle.std.specs.Prelude.{List};
+    ghost use Rattle.std.specs.Coded.{coded_list};
+
+    ghost Value = { List T };
+
+    ghost coded = { coded_list T.code };
+
+    ghost view = { λ list. list.queue.items };
+}
+
+impl<T> ItemList<T> {
+    /// No items. Nothing is allocated before the first of them.
+    pub fn new(alloc: Global) -> ItemList<T>
+        ensures { result ≡ [] }
+    {
+        ItemList {
+            queue: VecDeque::new(alloc),
+        }
+    }
+
+    /// Adds an item at the end.
+    pub fn push(&mut self, item: T) -> Result<(), NoRoom<T>>
+        ensures added { OnOk result (self.new ≡ self.old ++ item ∷ []) }
+        ensures unchanged { OnErr result (self.new ≡ self.old) }
+        ensures back { IfErr result (λ refused. refused.back ≡ item) }
+    {
+        match self.queue.push_back(item) {
+            Ok(()) => Ok(()),
+            Err(refused) => Err(NoRoom {
+                back: refused.value,
+            }),
+        }
+    }
+
+    /// How many items there are.
+    pub fn len(&self) -> usize
+        ensures { result ≡ length self.now }
+    {
+        self.queue.len()
+    }
+
+    /// The item at a place, counted from 0.
+    pub fn at(&self, i: usize) -> &T
+        requires { i < length self.now }
+        ensures { slice_get self.now i ≡ Some result.now }
+    {
+        &self.queue[i]
+    }
+
+    /// Takes out the first item.
+    pub fn next(&mut self) -> Option<T>
+        ensures { MatchOption result ((self.old ≡ []) × (self.new ≡ [])) (λ first. self.old ≡ first ∷ self.new) }
+    {
+        self.queue.pop_front()
+    }
+
+    /// Gives up the list, which is empty.
+    pub fn end(self)
+        requires { self ≡ [] }
+    {
+        let ItemList { queue } = self;
+        queue.destroy_empty();
+    }
+}

@@ -1,0 +1,23 @@
+//! What every layer shares: names, byte lists, texts, lists of items, numbers as bytes, and the refusals.
+#![tactic(auto)]
+
+mod bytes;
+mod item_list;
+mod kin;
+mod name;
+mod name_text;
+mod number;
+mod refusal;
+mod text;
+mod word_list;
+
+pub use bytes::Bytes;
+pub use item_list::{ItemList, NoRoom};
+pub use kin::Kin;
+pub use name::{AttrName, AttrNames, Name, PipeName, PipeNames, WorkerName, WorkerNames};
+pub use name_text::BadName;
+pub use number::{read_u16, read_u32, read_u64};
+pub use refusal::{Failed, NoMemory, Refusal};
+pub use text::Text;
+pub use word_list::WordList;
+

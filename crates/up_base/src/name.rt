@@ -1,0 +1,64 @@
+ghost use Rattle.std.specs.Prelude.{◌≡◌};
+ghost use Rattle.up_base.specs.NameOf.{name_of};
+
+use crate::BadName;
+use crate::name_text::NameText;
+use std::marker::{Model, PhantomData};
+
+/// What a `PipeName` names.
+#[derive(Clone, Copy)]
+pub struct PipeNames;
+
+/// What a `WorkerName` names.
+#[derive(Clone, Copy)]
+pub struct WorkerNames;
+
+/// What an `AttrName` names.
+#[derive(Clone, Copy)]
+pub struct AttrNames;
+
+/// A name of 1 to 64 bytes, each one of `A-Z a-z 0-9 . _ -`. `Of` keeps names of different things apart.
+#[derive(Clone, Copy)]
+pub struct Name<Of> {
+    text: NameText,
+    of: PhantomData<Of>,
+}
+
+/// The name of a pipe.
+pub type PipeName = Name<PipeNames>;
+
+/// The name of a worker.
+pub type WorkerName = Name<WorkerNames>;
+
+/// The name of an attribute of a packet.
+pub type AttrName = Name<AttrNames>;
+
+impl<Of> Model for Name<Of> {
+    ghost use Rattle.std.specs.Prelude.{List, ℕ};
+
+    ghost Value = { List ℕ };
+
+    ghost view = { λ name. name.text };
+
+    ghost inverse = { λ bytes. record { text = bytes; of = record {} } };
+}
+
+impl<Of> Name<Of> {
+    /// The name that the text spells.
+    pub fn read(text: &[u8]) -> Result<Name<Of>, BadName>
+        ensures { result ≡ name_of text.now }
+    {
+        let text = NameText::read(text)?;
+        Ok(Name {
+            text,
+            of: PhantomData,
+        })
+    }
+
+    /// The text of the name.
+    pub fn bytes(&self) -> &[u8]
+        ensures { result.now ≡ self.now }
+    {
+        self.text.bytes()
+    }
+}
