@@ -1,0 +1,19 @@
+-- Counts of faults, and the answers that they explain.
+use Rattle.std.specs.Prelude.{ℕ, ◌+◌, ◌-◌, ◌^◌, ◌≤◌, min, Result, OnErr, IsErrOf}
+use Rattle.up_base.specs.declared.refusal.Failed.{Failed}
+use Rattle.up_base.specs.declared.refusal.Refusal.{Refusal}
+use Rattle.up_base.specs.declared.refusal.Refusal.TheVariants as refusals
+
+-- the count is larger than before, or stands at its last value
+abbrev pub Rose : ℕ → ℕ → Type 0
+Rose before now = min (before + 1) (2 ^ 64 - 1) ≤ now
+
+-- the count didn't fall, and rose where the call failed
+pub record HasCause {T : Type 0} (before now : ℕ) (result : Result T Failed) : Type 0 where
+  pub later : before ≤ now
+  pub failed : OnErr result (Rose before now)
+
+-- the same of a call that may also find no memory: that alone needs no cause
+pub record RefusedByCause {T : Type 0} (before now : ℕ) (result : Result T Refusal) : Type 0 where
+  pub later : before ≤ now
+  pub failed : IsErrOf result refusals.Failed → Rose before now
