@@ -1,0 +1,84 @@
+ghost use Rattle.std.specs.Prelude.{◌≡◌, ◌<◌, ◌≤◌, ◌^◌, true, length, IfOk};
+ghost use Rattle.up_outside.specs.Counts.{Rose};
+ghost use Rattle.upipe_run.specs.Flow.{Carries};
+ghost use Rattle.upipe_run.specs.Objects.{IsSameObject, StaysTold};
+
+use crate::drain::put;
+use crate::fill::{Filled, Stop, fill};
+use up_base::NoMemory;
+use up_outside::{Sink, Source};
+
+/// How a source ended.
+#[derive(Clone, Copy, Debug, PartialEq, Eq)]
+pub enum End {
+    /// It was read to its end.
+    Whole,
+    /// A read failed.
+    ReadFault,
+    /// It had more bytes than its limit.
+    TooLong,
+}
+
+/// How a flow from a source to a sink ended.
+#[derive(Clone, Copy, Debug, PartialEq, Eq)]
+pub struct FlowEnd {
+    pub source: End,
+    pub sink_failed: bool,
+}
+
+/// Carries blocks from the source to the sink, up to the end, a fault or the limit, in bytes. A block that isn't
+/// filled at a fault or at the limit is given up. After a fault of the sink the blocks are given up, and the source is
+/// read on.
+pub fn carry<S: Source, K: Sink>(
+    source: &mut S,
+    sink: &mut K,
+    room: &mut [u8],
+    limit: u64,
+) -> Result<FlowEnd, NoMemory>
+    requires room { 0 < length room.old }
+    requires limit { limit ≤ 2 ^ 40 }
+    ensures bytes { Carries (S.left source.old) (S.left source.new) (K.written sink.old)
+        (K.written sink.new) (S.moved source.old) (S.moved source.new) limit result }
+    ensures read_fault { IfOk result (λ flow. flow.source ≡ End.ReadFault
+        → Rose (S.faults source.old) (S.faults source.new)) }
+    ensures write_fault { IfOk result (λ flow. flow.sink_failed ≡ true
+        → Rose (K.faults sink.old) (K.faults sink.new)) }
+    ensures same_source { IsSameObject (S.place source.old) (S.place source.new)
+        (S.faults source.old) (S.faults source.new) }
+    ensures same_sink { IsSameObject (K.place sink.old) (K.place sink.new)
+        (K.faults sink.old) (K.faults sink.new) }
+    ensures sink_sum { StaysTold (K.moved sink.old) (K.moved sink.new) }
+{
+    let mut left = limit;
+    let mut sink_failed = false;
+    'turns: loop {
+        let want = room.len().min(left as usize + 1);
+        let block = &mut room[..want];
+        let Filled { count, stop } = fill(source, block);
+        match stop {
+            Stop::Fault => {
+                return Ok(FlowEnd {
+                    source: End::ReadFault,
+                    sink_failed,
+                });
+            }
+            Stop::End => {
+                put(sink, &block[..count], &mut sink_failed)?;
+                return Ok(FlowEnd {
+                    source: End::Whole,
+                    sink_failed,
+                });
+            }
+            Stop::Full => {
+                if count as u64 > left {
+                    return Ok(FlowEnd {
+                        source: End::TooLong,
+                        sink_failed,
+                    });
+                }
+                put(sink, &block[..count], &mut sink_failed)?;
+                left -= count as u64;
+            }
+        }
+    }
+}
