@@ -1,5 +1,9 @@
+pub mod AskedRuns
 pub mod Ends
+pub mod Entries
+pub mod Kept
 pub mod Moved
 pub mod Parts
 pub mod Told
+pub mod Verdicts
 pub mod Written

@@ -1,2 +1,5 @@
+pub mod Asks
+pub mod Carried
 pub mod Flow
 pub mod Objects
+pub mod Verdicts

@@ -4,4 +4,5 @@
 mod drain;
 mod fill;
 mod flow;
-
+mod path;
+mod verdict;
