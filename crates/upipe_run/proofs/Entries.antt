@@ -1,5 +1,5 @@
 -- The entries of two opens and their closes, one after the other at the end of what was asked.
-use Rattle.std.proofs.Common.{◌≡◌, ℕ, ◌+◌, List, [], ◌∷◌, ◌++◌, length, Bool, true, false, Option, Some, None, IfSome, is_some, slice_get, slice_set, refl, sym, ap, ◌∙◌, append_assoc, arith, length-append}
+use Rattle.std.proofs.Common.{◌≡◌, ℕ, ◌+◌, List, [], ◌∷◌, ◌++◌, length, Bool, true, false, Option, Some, None, IfSome, is_some, slice_get, slice_set, refl, sym, ap, ◌∙◌, append_assoc, append-nil, arith, length-append}
 use Rattle.up_base.specs.declared.refusal.Refusal.{Refusal}
 use Rattle.up_outside.specs.Asked.{entry, refused, with_mark, AsksOpen, IsOpenAt, Closes}
 use Rattle.up_outside.specs.declared.asked.Entry.{Entry}
@@ -133,3 +133,22 @@ pub opened_adds : (a1 a2 : Option (List Entry)) (to : List ℕ) (place moved : O
     → IfSome a1 (λ xs. (more : List Entry) × (a2 ≡ Some (xs ++ more)))
 opened_adds None a2 to place moved h = tt
 opened_adds (Some x) a2 to place moved h = (entry to Sink Open ∷ [], h.grown)
+
+nothing_added : (a : Option (List Entry)) → IfSome a (λ xs. (more : List Entry) × (a ≡ Some (xs ++ more)))
+nothing_added None = tt
+nothing_added (Some x) = ([], ap Some (sym (append-nil x)))
+
+-- a source that was just opened stands open
+pub source_just_opened : (a0 a1 : Option (List Entry)) (from : List ℕ) (place place' moved : Option ℕ)
+    → IfSome a0 (λ xs. AsksOpen xs a1 from Source place moved) → is_some a1 ≡ is_some a0 → place' ≡ place
+    → IfSome a1 (λ xs. (path : List ℕ) × IsOpenAt xs place' Source path)
+source_just_opened a0 a1 from place place' moved opened told stays = source_stands a0 a1 a1 from place place' moved opened told (nothing_added a1) refl stays
+
+-- a source was opened and closed
+pub opened_and_closed : (a0 a1 a2 : Option (List Entry)) (from : List ℕ) (ps ps' ms ms' : Option ℕ) (n : ℕ) (failed : Bool)
+    → IfSome a0 (λ xs. AsksOpen xs a1 from Source ps ms) → IfSome a1 (λ xs. Closes xs a2 ps' ms' failed true)
+    → ps' ≡ ps → IfSome ms (λ x. ms' ≡ Some (x + n)) → IfSome a0 (λ xs. a2 ≡ Some (xs ++ entry from Source (Closed n failed true) ∷ []))
+opened_and_closed None a1 a2 from ps ps' ms ms' n failed opened closed same sum = tt
+opened_and_closed (Some x) a1 a2 from ps ps' ms ms' n failed opened closed same sum =
+    let moved : ms' ≡ Some n = (rw opened.nothing_yet at sum) ∙ ap Some (omega arith) in
+    closes_after x [] (entry from Source Open) a2 ps' ms' n failed true (same ∙ opened.at_end) moved (rw opened.grown at closed)

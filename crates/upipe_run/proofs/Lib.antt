@@ -1,4 +1,5 @@
 pub mod AskedRuns
+pub mod AskedTexts
 pub mod Ends
 pub mod Entries
 pub mod Kept

@@ -1,7 +1,11 @@
 -- What a run asked of its depot: a prefix of the paths, in order.
-use Rattle.std.specs.Prelude.{◌≡◌, ◌≢◌, ◌⊎◌, ℕ, List, [], ◌∷◌, ◌++◌, length, map, Bool, true, false, Option, Some, slice_get}
+use Rattle.std.specs.Prelude.{◌≡◌, ◌≢◌, ◌⊎◌, ℕ, List, [], ◌∷◌, ◌++◌, length, map, Bool, true, false, Option, Some, Result, Ok, Err, slice_get}
 use Rattle.std.specs.List.{AllByRecursion}
+use Rattle.up_base.specs.declared.refusal.Refusal.{Refusal}
+use Rattle.up_base.specs.declared.refusal.Refusal.TheVariants as refusals
+use Rattle.up_outside.specs.Asked.{entry}
 use Rattle.up_outside.specs.declared.asked.Entry.{Entry}
+use Rattle.up_outside.specs.declared.asked.Side.TheVariants.{Source}
 use Rattle.up_outside.specs.declared.asked.Mark.{Mark}
 use Rattle.up_outside.specs.declared.asked.Mark.TheVariants.{Refused, Open, Closed}
 use Rattle.upipe_run.specs.Flow.{IsPrefixOf}
@@ -33,3 +37,16 @@ pub record AsksPaths (old : List Entry) (new : Option (List Entry)) (from to : L
   pub all_asked : (verdict ≡ Whole) ⊎ (verdict ≡ TooLong) → length grown ≡ 2
   pub read_fault : verdict ≡ ReadFault → MarkAt grown 0 has_failed
   pub write_fault : verdict ≡ WriteFault → MarkAt grown 1 has_failed
+
+-- the one entry of a file that was read: closed where it was read, refused or closed with a fault where it wasn't, and
+-- none where there was no memory
+abbrev pub IsTextEntry : {A : Type 0} → Result A Refusal → List ℕ → List Entry → Type 0
+IsTextEntry (Ok text) path grown = (mark : Mark) × (is_open mark ≡ false) × (grown ≡ entry path Source mark ∷ [])
+IsTextEntry (Err refusals.Failed) path grown =
+    (mark : Mark) × (is_open mark ≡ false) × (has_failed mark ≡ true) × (grown ≡ entry path Source mark ∷ [])
+IsTextEntry (Err refusals.NoMemory) path grown = grown ≡ []
+
+pub record AsksText {A : Type 0} (old : List Entry) (new : Option (List Entry)) (path : List ℕ) (result : Result A Refusal) : Type 0 where
+  pub grown : List Entry
+  pub told : new ≡ Some (old ++ grown)
+  pub entries : IsTextEntry result path grown

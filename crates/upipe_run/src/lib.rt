@@ -4,5 +4,6 @@
 mod drain;
 mod fill;
 mod flow;
+mod graph_text;
 mod path;
 mod verdict;
