@@ -6,19 +6,19 @@ use crate::name_text::NameText;
 use std::marker::{Model, PhantomData};
 
 /// What a `PipeName` names.
-#[derive(Clone, Copy)]
+#[derive(Clone, Copy, Debug)]
 pub struct PipeNames;
 
 /// What a `WorkerName` names.
-#[derive(Clone, Copy)]
+#[derive(Clone, Copy, Debug)]
 pub struct WorkerNames;
 
 /// What an `AttrName` names.
-#[derive(Clone, Copy)]
+#[derive(Clone, Copy, Debug)]
 pub struct AttrNames;
 
 /// A name of 1 to 64 bytes, each one of `A-Z a-z 0-9 . _ -`. `Of` keeps names of different things apart.
-#[derive(Clone, Copy)]
+#[derive(Clone, Copy, Debug)]
 pub struct Name<Of> {
     text: NameText,
     of: PhantomData<Of>,

@@ -32,7 +32,7 @@ fn first_bad(text: &[u8]) -> Option<usize>
 }
 
 /// 1 to 64 name bytes, kept inline and followed by zeros.
-#[derive(Clone, Copy)]
+#[derive(Clone, Copy, Debug)]
 pub struct NameText {
     bytes: [u8; 64],
     len: u8,

@@ -1,0 +1,6 @@
+pub mod Branch
+pub mod Chain
+pub mod Cutting
+pub mod Meaning
+pub mod Outcomes
+pub mod Packet

@@ -1,0 +1,27 @@
+-- How a source ends, by the bytes that it could give, and what it then carried.
+use Rattle.std.specs.Prelude.{ℕ, List, [], length, take, nat_lt, if◌then◌else◌}
+use Rattle.up_model.specs.Cutting.{blocks, full_blocks}
+use Rattle.up_model.specs.Packet.{Flow}
+use Rattle.up_model.specs.declared.kind.Kind.{Kind}
+use Rattle.up_model.specs.declared.kind.Kind.TheVariants.{Source, Sink, Idem}
+use Rattle.up_model.specs.declared.form.SourceForm.TheVariants.{Raw}
+use Rattle.up_model.specs.declared.outcome.Outcome.{Outcome}
+use Rattle.up_model.specs.declared.outcome.Outcome.TheVariants.{Whole, ReadFault, WriteFault, TooLong, Broken, NoMemory}
+
+-- where no read fails: too long where there are more bytes than the limit, else whole
+abbrev pub outcome_of : Kind → List ℕ → Outcome
+outcome_of (Source path (Raw block) limit) bytes = if nat_lt limit (length bytes) then TooLong limit else Whole
+outcome_of kind bytes = Whole
+
+-- all its blocks where it is whole, else the whole blocks within the limit
+abbrev pub carried_flow : Kind → List ℕ → Flow
+carried_flow (Source path (Raw block) limit) bytes =
+    if nat_lt limit (length bytes) then full_blocks block (take limit bytes) else blocks block bytes
+carried_flow kind bytes = []
+
+-- the pipe ended as it did for a reason of its own
+abbrev pub HasOwnCause : Outcome → Type 0
+HasOwnCause ReadFault = Unit {0}
+HasOwnCause WriteFault = Unit {0}
+HasOwnCause (TooLong limit) = Unit {0}
+HasOwnCause outcome = ⊥

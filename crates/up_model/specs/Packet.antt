@@ -1,0 +1,44 @@
+-- Packets: a finite map from names to values, and a list of bytes.
+use Rattle.std.specs.Prelude.{◌≡◌, ℕ, ◌≤◌, true, List, length, map, All}
+use Rattle.std.specs.List.{concat}
+use Rattle.std.specs.Ordering.{nat_cmp}
+use Rattle.std.specs.Cmp.Lexicographic.{slice_cmp}
+use Rattle.std.specs.FinMap.{FinMap, empty, keys, values as values_of, len}
+use Rattle.up_base.specs.Name.{is_name}
+use Rattle.up_model.specs.declared.value.Value.{Value}
+use Rattle.up_model.specs.declared.value.Value.TheVariants.{Void, Flag, Unsigned, Words, Opaque}
+
+-- attributes, by their names in byte order
+abbrev pub Attrs : Type 0
+Attrs = FinMap (slice_cmp nat_cmp) Value
+
+pub record PlainPacket : Type 0 where
+  pub attrs : Attrs
+  pub bytes : List ℕ
+
+-- packets in order
+abbrev pub Flow : Type 0
+Flow = List PlainPacket
+
+-- a packet without attributes
+abbrev pub plain : List ℕ → PlainPacket
+plain bytes = record { attrs = empty; bytes = bytes }
+
+-- the bytes of a text or opaque value
+abbrev pub value_size : Value → ℕ
+value_size Void = 0
+value_size (Flag flag) = 0
+value_size (Unsigned number) = 0
+value_size (Words text) = length text
+value_size (Opaque bytes) = length bytes
+
+-- at most 64 attributes, their names are names, their values at most 4,096 bytes, and at most 1,048,576 bytes
+pub record IsLegal (packet : PlainPacket) : Type 0 where
+  pub few : len packet.attrs ≤ 64
+  pub names : All (λ name. is_name name ≡ true) (keys packet.attrs)
+  pub values : All (λ value. value_size value ≤ 4096) (values_of packet.attrs)
+  pub size : length packet.bytes ≤ 1048576
+
+-- the bytes of the packets, one after the other
+abbrev pub joined : Flow → List ℕ
+joined flow = concat (map (λ packet. packet.bytes) flow)

@@ -1,0 +1,17 @@
+use crate::{SinkForm, SourceForm};
+use up_base::Text;
+
+/// What a pipe does, with the fields of its kind.
+#[derive(Debug, Drop)]
+pub enum Kind {
+    /// Reads the bytes at a path of 1 to 4,096 bytes, up to `limit` of them, at most 2^40.
+    Source {
+        path: Text,
+        form: SourceForm,
+        limit: u64,
+    },
+    /// Writes what it takes to a path of 1 to 4,096 bytes.
+    Sink { path: Text, form: SinkForm },
+    /// Passes on what it takes.
+    Idem,
+}

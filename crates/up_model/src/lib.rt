@@ -1,0 +1,28 @@
+//! The meaning of a graph: its pipes, packets and kinds, and what each pipe makes of what it takes.
+#![tactic(auto)]
+
+mod catch_set;
+mod event_kind;
+mod form;
+mod graph;
+mod kind;
+mod laws;
+mod limits;
+mod lists;
+mod outcome;
+mod pipe;
+mod tally;
+mod value;
+
+pub use catch_set::CatchSet;
+pub use event_kind::EventKind;
+pub use form::{SinkForm, SourceForm};
+pub use graph::Graph;
+pub use kind::Kind;
+pub use laws::{blocks_rejoin, chain_copies};
+pub use limits::{DEFAULT_BLOCK, DEFAULT_QUEUE, MAX_GRAPH, MAX_LIMIT, MAX_PATH, MAX_PIPES};
+pub use lists::{GivenBytes, OutcomeList, PipeList, PlaceList, TallyList};
+pub use outcome::Outcome;
+pub use pipe::{Pipe, default_worker};
+pub use tally::Tally;
+pub use value::Value;

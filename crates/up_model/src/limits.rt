@@ -1,0 +1,17 @@
+/// The greatest graph file, in bytes.
+pub const MAX_GRAPH: usize = 1_048_576;
+
+/// The most pipes of a graph.
+pub const MAX_PIPES: usize = 256;
+
+/// The longest path, in bytes.
+pub const MAX_PATH: usize = 4_096;
+
+/// The greatest limit of a source, and the one that it has where its graph names none, in bytes: 2^40.
+pub const MAX_LIMIT: u64 = 1_099_511_627_776;
+
+/// The block of a raw source whose graph names none, in bytes.
+pub const DEFAULT_BLOCK: u32 = 4_096;
+
+/// The length of a lane whose graph names none, in items.
+pub const DEFAULT_QUEUE: u16 = 64;
