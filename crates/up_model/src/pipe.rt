@@ -21,6 +21,7 @@ pub struct Pipe {
 }
 
 /// The worker of a pipe whose graph names none: `main`.
+#[tactic(auto, unfolding(up_base::specs::NameOf::name_of))]
 pub fn default_worker() -> WorkerName
     ensures { result ≡ codes "main" }
 {
