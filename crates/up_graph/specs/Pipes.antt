@@ -10,7 +10,7 @@ use Rattle.up_model.specs.declared.pipe.Pipe.{Pipe}
 
 -- a value that is no table names no kind
 abbrev pub draft_in : Stand → Data → Field Sketch
-draft_in stand (table members) = draft_of stand members
+draft_in stand (table fields) = draft_of stand fields
 draft_in stand _ = Err (codes "kind")
 
 -- the pipe that stands so, numbered from 1 in a refusal

@@ -14,3 +14,5 @@ mod top;
 pub use graph_refused::GraphRefused;
 pub use read::read_graph;
 
+#[cfg(test)]
+mod tests;

@@ -48,10 +48,14 @@ pub fn pipes_at(alloc: Global, items: &Array) -> Result<PipeList, GraphRefused>
             before,
             is_last: place + 1 == items.len(),
         };
-        let pipe = pipe_at(alloc, item, &stand)?;
+        let pipe = match pipe_at(alloc, item, &stand) {
+            Ok(pipe) => pipe,
+            Err(refused) => return Err(refused),
+        };
         before = Some(pipe.name);
-        if pipes.push(pipe).is_err() {
-            return Err(GraphRefused::NoMemory);
+        match pipes.push(pipe) {
+            Ok(()) => {}
+            Err(_) => return Err(GraphRefused::NoMemory),
         }
     }
     Ok(pipes)
