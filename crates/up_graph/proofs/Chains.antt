@@ -1,13 +1,13 @@
 -- The pipes that are read are a chain.
-use Rattle.std.proofs.Common.{◌≡◌, ℕ, zero, suc, ◌+◌, ◌<◌, ◌≤◌, Bool, true, false, not, List, [], ◌∷◌, length, Option, Some, None, Result, Ok, Err, refl, sym, ap, ◌∙◌, arith}
-use Rattle.std.specs.Prelude.{◌==◌, ◌&&◌, slice_get, IfOk, codes, if◌then◌else◌}
+use Rattle.std.proofs.Common.{◌≡◌, ℕ, zero, suc, ◌+◌, ◌<◌, ◌≤◌, Bool, true, false, List, [], ◌∷◌, length, Option, Some, None, Result, Ok, Err, refl, ap, arith}
+use Rattle.std.specs.Prelude.{slice_get, IfOk, codes, if◌then◌else◌}
 use Rattle.std.proofs.lemmas.Bool.Decides.{nat_tests}
 use Rattle.toml.specs.Data.{Data, table, Items, no_items, item, Members}
 use Rattle.up_graph.specs.Answers.{Checked, ◌>>=◌}
-use Rattle.up_graph.specs.Drafts.{Sketch, draft_with, draft_of_kind, draft_of_word, place_before, pipe_from}
+use Rattle.up_graph.specs.Drafts.{draft_with, draft_of_kind, draft_of_word, place_before, pipe_from}
 use Rattle.up_graph.specs.Field.{Field, field_map, both, text_at}
-use Rattle.up_graph.specs.Kinds.{kind_name_of, kind_of, source_of, sink_of, idem_of}
-use Rattle.up_graph.specs.Links.{is_placed, placed, linked}
+use Rattle.up_graph.specs.Kinds.{kind_name_of, kind_of}
+use Rattle.up_graph.specs.Links.{is_placed, linked}
 use Rattle.up_graph.specs.Pipes.{draft_in, pipe_of, is_empty, pipes_from}
 use Rattle.up_graph.specs.Top.{items_len, numbered}
 use Rattle.up_graph.specs.declared.chain.Stand.{Stand}
@@ -42,7 +42,6 @@ abbrev IsNamed : KindName → Kind → Type 0
 IsNamed names.Source kind = IsRawSource kind
 IsNamed names.Sink kind = IsRawSink kind
 IsNamed names.Idem kind = kind ≡ Idem
-
 
 mapped : {A B : Type 0} (f : A → B) (found : Field A) (P : B → Type 0) → IfOk found (λ value. P (f value)) → IfOk (field_map f found) P
 mapped f (Ok value) P holds = holds

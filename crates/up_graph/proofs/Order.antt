@@ -1,5 +1,5 @@
 -- The rules in their order.
-use Rattle.std.proofs.Common.{◌≡◌, Err, refl}
+use Rattle.std.proofs.Common.{Err, refl}
 use Rattle.up_graph.specs.Answers.{Answers, Checked, ◌>>=◌}
 use Rattle.up_graph.specs.declared.graph_refused.GraphRefused.{GraphRefused}
 use Rattle.up_graph.specs.declared.graph_refused.GraphRefused.TheVariants.{NoMemory}

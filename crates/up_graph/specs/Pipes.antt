@@ -1,5 +1,5 @@
 -- The pipes of a file, in its order.
-use Rattle.std.specs.Prelude.{ℕ, ◌+◌, suc, Bool, true, false, List, [], ◌∷◌, codes, Option, Some, None, Ok, Err}
+use Rattle.std.specs.Prelude.{ℕ, ◌+◌, suc, Bool, true, false, List, [], ◌∷◌, codes, Option, Some, Ok, Err}
 use Rattle.toml.specs.Data.{Data, table, Items, no_items, item}
 use Rattle.up_graph.specs.Answers.{Checked, ◌>>=◌}
 use Rattle.up_graph.specs.Drafts.{Sketch, draft_of, pipe_from}

@@ -1,5 +1,5 @@
 -- What is looked at before the pipes: the version, the number of pipes, the keys at the top.
-use Rattle.std.specs.Prelude.{ℕ, ◌+◌, ℤ, pos, negsuc, Bool, true, false, List, [], ◌∷◌, codes, nat_lt, ◌==◌, Option, Some, None, Ok, Err, if◌then◌else◌}
+use Rattle.std.specs.Prelude.{ℕ, ◌+◌, ℤ, pos, negsuc, Bool, true, false, [], ◌∷◌, codes, nat_lt, ◌==◌, Option, Some, None, Ok, Err, if◌then◌else◌}
 use Rattle.toml.specs.Data.{Data, integer, array, table, Items, no_items, item, Members, get_member}
 use Rattle.up_graph.specs.Answers.{Checked, ◌>>=◌}
 use Rattle.up_graph.specs.Field.{Field, both, known_alone}

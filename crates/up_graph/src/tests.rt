@@ -123,12 +123,24 @@ fn a_refusal_says_what_is_wrong(rt: HostRuntime) -> Result<(), Fail> {
     let alloc = rt.alloc();
     let field = Text::from_str(alloc, "path")?;
     let cases = vec![in alloc;
-        (GraphRefused::TooBig { len: 1_048_577 }, "1048577 bytes, where a graph file has at most 1048576"),
+        (
+            GraphRefused::TooBig { len: 1_048_577 },
+            "1048577 bytes, where a graph file has at most 1048576"
+        ),
         (GraphRefused::NotToml, "not a TOML document"),
-        (GraphRefused::BadVersion { got: Some(2) }, "the version is not 1"),
+        (
+            GraphRefused::BadVersion { got: Some(2) },
+            "the version is not 1"
+        ),
         (GraphRefused::NoPipes, "no pipes"),
-        (GraphRefused::TooManyPipes { count: 257 }, "257 pipes, where a graph has at most 256"),
-        (GraphRefused::BadField { pipe: 3, field }, "pipe 3: bad field path"),
+        (
+            GraphRefused::TooManyPipes { count: 257 },
+            "257 pipes, where a graph has at most 256"
+        ),
+        (
+            GraphRefused::BadField { pipe: 3, field },
+            "pipe 3: bad field path"
+        ),
         (GraphRefused::NoMemory, "out of memory"),
     ]?;
     for (refused, wanted) in cases {

@@ -85,7 +85,13 @@ fn tables_in<'a>(found: Option<&'a Array>) -> Result<&'a Array, &'a str>
     ensures same { IfOk result (λ pipes. found.entry ≡ Some pipes) }
 {
     match found {
-        Some(pipes) => { if are_tables(pipes) { Ok(pipes) } else { Err("pipe") } }
+        Some(pipes) => {
+            if are_tables(pipes) {
+                Ok(pipes)
+            } else {
+                Err("pipe")
+            }
+        }
         None => Err("pipe"),
     }
 }

@@ -1,4 +1,4 @@
-use Rattle.std.proofs.Common.{◌≡◌, true, false, [], Ok, string_bytes, sym, ◌∙◌, refl}
+use Rattle.std.proofs.Common.{◌≡◌, true, false, Ok, string_bytes, sym, ◌∙◌, refl}
 use Rattle.std.specs.List.{list_any}
 use Rattle.std.specs.Str.{bytes_eq}
 use Rattle.up_graph.proofs.Keys.{keys-view, left_known, left_known-next, left_known-other}

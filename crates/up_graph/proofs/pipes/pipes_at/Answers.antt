@@ -1,4 +1,4 @@
-use Rattle.std.proofs.Common.{◌≡◌, ◌++◌, ◌∷◌, [], length, get_or, sym, ◌∙◌, arith}
+use Rattle.std.proofs.Common.{◌≡◌, length, get_or, sym, ◌∙◌, arith}
 use Rattle.toml.specs.View.{array_view}
 use Rattle.up_graph.proofs.Chains.{chain-from}
 use Rattle.up_graph.proofs.Items.{items_len_view}
@@ -16,7 +16,7 @@ returns-in-Err-clause-answers c =
     (omega (arith, c.deref-item-items.ensures.len)) (rw (← here, ← count) c.in-Err.ensures))
 
 pub loop-place-preserved : goal.loop-place-preserved
-loop-place-preserved c = 
+loop-place-preserved c =
     let values = c.args.items.now.items in
     let place = c.loop-place.place in
     let here : c.item-item.result ≡ get_or values place c.item-item.result = rw c.deref-item-items.ensures.value at c.item-item.is in
