@@ -1,0 +1,78 @@
+-- The fields of a table: each has a value, or is wrong and told by its name.
+use Rattle.std.specs.Prelude.{ℕ, ◌==◌, Bool, ◌&&◌, not, List, [], ◌∷◌, length, nat_le, Option, Some, Result, Ok, Err, if◌then◌else◌}
+use Rattle.std.specs.List.{list_any}
+use Rattle.std.specs.Str.{bytes_eq}
+use Rattle.std.specs.Borrow.{Bor}
+use Rattle.std.specs.Ordering.{nat_cmp, match_ordering}
+use Rattle.std.specs.Cmp.Lexicographic.{slice_cmp}
+use Rattle.toml.specs.Data.{Data, string, Members, no_members, member, get_member}
+use Rattle.up_base.specs.Name.{is_name}
+use Rattle.up_model.specs.declared.limits.TheConstants.{MAX_PATH}
+
+-- what a field gives, or the name of the wrong field
+abbrev pub Field : Type 0 → Type 0
+Field A = Result A (List ℕ)
+
+-- what a reader of the code answers
+abbrev pub seen : {A B : Type 0} → (A → B) → Result A (Bor (List ℕ)) → Field B
+seen view (Ok value) = Ok (view value)
+seen view (Err key) = Err key.now
+
+abbrev pub field_map : {A B : Type 0} → (A → B) → Field A → Field B
+field_map f (Ok value) = Ok (f value)
+field_map f (Err key) = Err key
+
+-- the lesser of two names in byte order
+abbrev pub lesser : List ℕ → List ℕ → List ℕ
+lesser a b = match_ordering (slice_cmp nat_cmp b a) b a a
+
+-- both values, or the least wrong field
+abbrev pub both : {A B : Type 0} → Field A → Field B → Field (A × B)
+both (Ok a) (Ok b) = Ok (a, b)
+both (Ok a) (Err key) = Err key
+both (Err key) (Ok b) = Err key
+both (Err first) (Err second) = Err (lesser first second)
+
+abbrev pub name_in : List ℕ → Option Data → Field (List ℕ)
+name_in key (Some (string text)) = if is_name text then Ok text else Err key
+name_in key _ = Err key
+
+-- a pipe name
+abbrev pub name_at : List ℕ → Members → Field (List ℕ)
+name_at key table = name_in key (get_member key table)
+
+abbrev pub text_in : List ℕ → Option Data → Field (List ℕ)
+text_in key (Some (string text)) = Ok text
+text_in key _ = Err key
+
+-- any string
+abbrev pub text_at : List ℕ → Members → Field (List ℕ)
+text_at key table = text_in key (get_member key table)
+
+abbrev pub is_path : List ℕ → Bool
+is_path path = nat_le 1 (length path) && (nat_le (length path) MAX_PATH && not (list_any (λ byte. byte == 0) path))
+
+abbrev pub path_in : List ℕ → Field (List ℕ) → Field (List ℕ)
+path_in key (Ok path) = if is_path path then Ok path else Err key
+path_in key (Err _) = Err key
+
+-- a path: a string of 1 to 4,096 bytes, none of them zero
+abbrev pub path_at : List ℕ → Members → Field (List ℕ)
+path_at key table = path_in key (text_at key table)
+
+abbrev pub is_among : List ℕ → List (List ℕ) → Bool
+is_among key names = list_any (bytes_eq key) names
+
+-- the keys of a table, in byte order
+abbrev pub keys : Members → List (List ℕ)
+keys no_members = []
+keys (member key value others) = key ∷ keys others
+
+-- each key is known, or the first that is not is wrong
+abbrev pub each_known : List (List ℕ) → List (List ℕ) → Field (Unit {0})
+each_known known [] = Ok tt
+each_known known (key ∷ others) = if is_among key known then each_known known others else Err key
+
+-- no other keys stand in the table; as keys stand in byte order, the first of the others is the least
+abbrev pub known_alone : List (List ℕ) → Members → Field (Unit {0})
+known_alone known table = each_known known (keys table)

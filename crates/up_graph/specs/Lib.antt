@@ -1,0 +1,9 @@
+pub mod Answers
+pub mod Document
+pub mod Drafts
+pub mod Field
+pub mod Graph
+pub mod Kinds
+pub mod Links
+pub mod Pipes
+pub mod Top

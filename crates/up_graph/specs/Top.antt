@@ -1,0 +1,64 @@
+-- What is looked at before the pipes: the version, the number of pipes, the keys at the top.
+use Rattle.std.specs.Prelude.{ℕ, ◌+◌, ℤ, pos, negsuc, Bool, true, false, [], ◌∷◌, codes, nat_lt, ◌==◌, Option, Some, None, Ok, Err, if◌then◌else◌}
+use Rattle.toml.specs.Data.{Data, integer, array, table, Items, no_items, item, Members, get_member}
+use Rattle.up_graph.specs.Answers.{Checked, ◌>>=◌}
+use Rattle.up_graph.specs.Field.{Field, both, known_alone}
+use Rattle.up_graph.specs.declared.graph_refused.GraphRefused.TheVariants.{BadVersion, NoPipes, TooManyPipes, BadField}
+use Rattle.up_model.specs.declared.limits.TheConstants.{MAX_PIPES}
+
+abbrev pub is_one : ℤ → Bool
+is_one (pos n) = n == 1
+is_one (negsuc n) = false
+
+abbrev pub version_is : Option Data → Checked (Unit {0})
+version_is (Some (integer got)) = if is_one got then Ok tt else Err (BadVersion (Some got))
+version_is _ = Err (BadVersion None)
+
+-- `version` is the integer 1
+abbrev pub version_of : Members → Checked (Unit {0})
+version_of top = version_is (get_member (codes "version") top)
+
+-- how many items there are
+abbrev pub items_len : Items → ℕ
+items_len no_items = 0
+items_len (item first others) = 1 + items_len others
+
+-- there are 1 to 256 of them
+abbrev pub counted : Items → Checked (Unit {0})
+counted pipes =
+    if items_len pipes == 0 then Err NoPipes
+    else if nat_lt MAX_PIPES (items_len pipes) then Err (TooManyPipes (items_len pipes))
+    else Ok tt
+
+abbrev pub array_in : Option Data → Checked (Option Items)
+array_in None = Err NoPipes
+array_in (Some (array pipes)) = counted pipes >>= (λ _. Ok (Some pipes))
+array_in (Some _) = Ok None
+
+-- the array at `pipe`, which has 1 to 256 items; what is no array is refused later
+abbrev pub array_of : Members → Checked (Option Items)
+array_of top = array_in (get_member (codes "pipe") top)
+
+abbrev pub are_tables : Items → Bool
+are_tables no_items = true
+are_tables (item (table _) others) = are_tables others
+are_tables (item _ others) = false
+
+-- `pipe` is an array of tables
+abbrev pub tables_in : Option Items → Field Items
+tables_in (Some pipes) = if are_tables pipes then Ok pipes else Err (codes "pipe")
+tables_in None = Err (codes "pipe")
+
+-- the wrong field of a pipe, by its number, or of the top, whose number is 0
+abbrev pub numbered : {A : Type 0} → ℕ → Field A → Checked A
+numbered number (Ok value) = Ok value
+numbered number (Err key) = Err (BadField number key)
+
+abbrev pub second : {A B : Type 0} → Field (A × B) → Field B
+second (Ok found) = Ok found.1
+second (Err key) = Err key
+
+-- the tables of the pipes, where no other key stands at the top
+abbrev pub tables_of : Option Items → Members → Checked Items
+tables_of found top =
+    numbered 0 (second (both (known_alone (codes "pipe" ∷ codes "version" ∷ []) top) (tables_in found)))
