@@ -5,7 +5,6 @@ use Rattle.std.specs.FinMap.{get, insert, get-insert}
 use Rattle.std.specs.Ordering.{nat_cmp, eq_by_cmp}
 use Rattle.std.specs.Cmp.Lexicographic.{slice_cmp, nat_list_cmp_total}
 use Rattle.std.proofs.lemmas.List.Elements.{All-push, All-set}
-use Rattle.std.proofs.lemmas.Option.{slice_get_within, get_or_from_slice_get}
 use Rattle.up_base.specs.declared.refusal.NoMemory.{NoMemory}
 use Rattle.up_outside.specs.Asked.{entry, with_mark, IsOpenAt, Closes}
 use Rattle.up_outside.specs.Held.{Held, KeepsOthers}
@@ -69,12 +68,3 @@ rooms-close held asked after place n side path failed shut rooms is closes =
   where
     not_open : marks.Closed n failed shut ≡ marks.Open → ⊥
     not_open is = cc
-
--- the room of an open sink's entry
-pub room_at : (held : Held) (asked : List Entry) (at : ℕ) (path : List ℕ) → HasRooms held asked → slice_get asked at ≡ Some (entry path sides.Sink marks.Open)
-    → is_some (get held path) ≡ true
-room_at held asked at path rooms there =
-    let e = entry path sides.Sink marks.Open in
-    let within = slice_get_within asked at e there in
-    let here : get_or asked at e ≡ e = get_or_from_slice_get asked at e e there in
-    (rw here at (rooms at e within)) refl refl

@@ -1,3 +1,4 @@
+pub mod Adapters
 pub mod Asked
 pub mod Counts
 pub mod Held

@@ -31,10 +31,12 @@ fn refused(error: &Error, faults: &mut u64) -> Refusal
 }
 
 impl<'r, R: Files<File = File>> FileDepot<'r, R> {
+    ghost use Rattle.up_outside.specs.Adapters.{file_source_faults, file_sink_faults};
+
     /// The files of this system, of which no call has failed.
     pub fn new(rt: &'r R) -> FileDepot<'r, R>
-        ensures sources { result.source_faults ≡ 0 }
-        ensures sinks { result.sink_faults ≡ 0 }
+        ensures sources { file_source_faults result ≡ 0 }
+        ensures sinks { file_sink_faults result ≡ 0 }
     {
         FileDepot {
             rt,
@@ -45,20 +47,22 @@ impl<'r, R: Files<File = File>> FileDepot<'r, R> {
 
     /// How many opens of sources, and closes of faulty ones, were counted.
     pub fn source_faults(&self) -> u64
-        ensures { result ≡ self.now.source_faults }
+        ensures { result ≡ file_source_faults self.now }
     {
         self.source_faults
     }
 
     /// How many opens of sinks, and closes of faulty ones, were counted.
     pub fn sink_faults(&self) -> u64
-        ensures { result ≡ self.now.sink_faults }
+        ensures { result ≡ file_sink_faults self.now }
     {
         self.sink_faults
     }
 }
 
 impl<'r, R: Files<File = File>> Depot for FileDepot<'r, R> {
+    ghost use Rattle.up_outside.specs.Adapters.{file_source_faults, file_sink_faults};
+
     type Src = ReaderSource<File>;
 
     type Snk = WriterSink<File>;
@@ -67,9 +71,9 @@ impl<'r, R: Files<File = File>> Depot for FileDepot<'r, R> {
 
     ghost asked = { λ _. None };
 
-    ghost source_faults = { λ d. d.source_faults };
+    ghost source_faults = { λ d. file_source_faults d };
 
-    ghost sink_faults = { λ d. d.sink_faults };
+    ghost sink_faults = { λ d. file_sink_faults d };
 
     fn open_source(&mut self, path: &str) -> Result<ReaderSource<File>, Refusal> {
         match OpenOptions::new().read(true).open(self.rt, path) {

@@ -14,6 +14,9 @@ mod sink;
 mod source;
 mod writer_sink;
 
+#[cfg(test)]
+mod tests;
+
 pub use asked::{Entry, Mark, Side};
 pub use depot::Depot;
 pub use file_depot::FileDepot;

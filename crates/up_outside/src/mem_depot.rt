@@ -1,4 +1,4 @@
-ghost use Rattle.std.specs.Prelude.{◌≡◌, ◌<◌, ◌≤◌, ◌^◌, ◌-◌, [], Some, None, nat_lt, true, OnOk, OnErr, MatchOption};
+ghost use Rattle.std.specs.Prelude.{◌≡◌, ◌<◌, ◌≤◌, ◌^◌, ◌-◌, [], Some, None, nat_lt, true, IfOk, OnOk, OnErr, MatchOption};
 ghost use Rattle.std.specs.FinMap as map;
 ghost use Rattle.up_outside.specs.Asked.{IsOpenAt, Closes};
 ghost use Rattle.up_outside.specs.Counts.{Rose};
@@ -26,6 +26,7 @@ pub struct MemDepot {
 
 impl MemDepot {
     ghost use Rattle.up_outside.specs.MemDepot.{depot_held, depot_asked, depot_most, AsksNothing};
+    ghost use Rattle.up_outside.specs.MemDepot.{IsNewSource, IsNewSink};
     ghost use Rattle.up_outside.specs.MemDepot.{depot_source_faults, depot_sink_faults};
     ghost use Rattle.up_outside.specs.MemSink.{sink_bytes, sink_moved, sink_place, sink_faults};
 
@@ -78,6 +79,49 @@ impl MemDepot {
         self.held.bytes(path)
     }
 
+    /// One entry for each open that was refused or succeeded, in order.
+    pub fn asked(&self) -> &[Entry]
+        ensures { result.now ≡ depot_asked self.now }
+    {
+        &self.asked
+    }
+
+    /// How many opens of sources, and closes of faulty ones, were counted.
+    pub fn source_faults(&self) -> u64
+        ensures { result ≡ depot_source_faults self.now }
+    {
+        self.source_faults
+    }
+
+    /// How many opens of sinks, and closes of faulty ones, were counted.
+    pub fn sink_faults(&self) -> u64
+        ensures { result ≡ depot_sink_faults self.now }
+    {
+        self.sink_faults
+    }
+
+    /// A source of the bytes at the path, where it is held.
+    fn source_at(&self, path: &str) -> Result<Option<MemSource>, NoMemory>
+        ensures { IfOk result (λ found. MatchOption found
+            (map.get (depot_held self.now) path.now ≡ None)
+            (IsNewSource self.now path.now)) }
+    {
+        match self.held.bytes(path) {
+            Some(bytes) => {
+                let bytes = Bytes::from_slice(self.alloc, bytes)?;
+                Ok(Some(MemSource::new(bytes, self.most, self.asked.len())))
+            }
+            None => Ok(None),
+        }
+    }
+
+    /// A sink for the next entry.
+    fn new_sink(&self) -> MemSink
+        ensures { IsNewSink self.now result }
+    {
+        MemSink::opened(self.alloc, self.most, self.asked.len())
+    }
+
     /// Closes a sink that is open at the path: what was written lies there from now on. Nothing in it can fail.
     fn store(&mut self, path: &str, sink: MemSink)
         requires { IsOpenAt (depot_asked self.old) (Some (sink_place sink)) Side.Sink path.now }
@@ -118,16 +162,14 @@ impl Depot for MemDepot {
     ghost sink_faults = { λ d. depot_sink_faults d };
 
     fn open_source(&mut self, path: &str) -> Result<MemSource, Refusal> {
-        match self.held.bytes(path) {
-            Some(bytes) => {
-                let bytes = Bytes::from_slice(self.alloc, bytes)?;
-                let place = self.asked.len();
+        match self.source_at(path)? {
+            Some(source) => {
                 ask(self.alloc, &mut self.asked, path, Side::Source, Mark::Open)?;
-                Ok(MemSource::new(bytes, self.most, place))
+                Ok(source)
             }
             None => {
-                let (alloc, mark) = (self.alloc, Mark::Refused);
-                ask(alloc, &mut self.asked, path, Side::Source, mark)?;
+                let refused = Mark::Refused;
+                ask(self.alloc, &mut self.asked, path, Side::Source, refused)?;
                 self.source_faults = self.source_faults.saturating_add(1);
                 Err(Refusal::Failed)
             }
@@ -136,9 +178,9 @@ impl Depot for MemDepot {
 
     fn open_sink(&mut self, path: &str) -> Result<MemSink, Refusal> {
         self.held.set(path, Bytes::new(self.alloc))?;
-        let place = self.asked.len();
+        let sink = self.new_sink();
         ask(self.alloc, &mut self.asked, path, Side::Sink, Mark::Open)?;
-        Ok(MemSink::opened(self.alloc, self.most, place))
+        Ok(sink)
     }
 
     fn close_source(&mut self, s: MemSource) {

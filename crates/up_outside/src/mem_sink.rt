@@ -1,8 +1,8 @@
-ghost use Rattle.std.specs.Prelude.{◌≡◌, ◌<◌, [], Some, length, refl};
+ghost use Rattle.std.specs.Prelude.{◌≡◌, ◌<◌, ◌++◌, [], Some, length, min, take, refl, IfOk, OnErr};
 
 use crate::Sink;
 use std::alloc::Global;
-use up_base::{Bytes, Refusal};
+use up_base::{Bytes, NoMemory, Refusal};
 
 /// A sink that keeps what it is given. It fails for want of memory alone.
 #[derive(Drop)]
@@ -56,6 +56,20 @@ impl MemSink {
         self.bytes
     }
 
+    /// Adds the front of the piece: as many bytes as there are, and as a write takes at most.
+    fn keep(&mut self, piece: &[u8]) -> Result<usize, NoMemory>
+        ensures count { IfOk result (λ n. n ≡ min (length piece.now) (sink_most self.old)) }
+        ensures bytes { IfOk result (λ n. sink_bytes self.new ≡ sink_bytes self.old ++ take n piece.now) }
+        ensures unchanged { OnErr result (sink_bytes self.new ≡ sink_bytes self.old) }
+        ensures place { sink_place self.new ≡ sink_place self.old }
+        ensures faults { sink_faults self.new ≡ sink_faults self.old }
+        ensures most { sink_most self.new ≡ sink_most self.old }
+    {
+        let count = piece.len().min(self.most);
+        self.bytes.append(&piece[..count])?;
+        Ok(count)
+    }
+
     /// The place of its entry.
     pub(crate) fn place(&self) -> usize
         ensures { result ≡ sink_place self.now }
@@ -92,8 +106,6 @@ impl Sink for MemSink {
     ghost together = { λ _. refl };
 
     fn write(&mut self, piece: &[u8]) -> Result<usize, Refusal> {
-        let count = piece.len().min(self.most);
-        self.bytes.append(&piece[..count])?;
-        Ok(count)
+        Ok(self.keep(piece)?)
     }
 }

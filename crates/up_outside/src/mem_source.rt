@@ -1,4 +1,4 @@
-ghost use Rattle.std.specs.Prelude.{◌≡◌, ◌<◌, ◌≤◌, Some, length, min, take, refl};
+ghost use Rattle.std.specs.Prelude.{◌≡◌, ◌<◌, ◌≤◌, ◌+◌, ◌++◌, Some, length, min, take, refl};
 
 use crate::Source;
 use up_base::{Bytes, Failed};
@@ -46,6 +46,22 @@ impl MemSource {
         }
     }
 
+    /// Moves the next bytes to the front of the room: as many as there are, as fit, and as a read gives at most.
+    fn give(&mut self, room: &mut [u8]) -> usize
+        ensures count { result
+            ≡ min (min (length (source_left self.old)) (length room.old)) (source_most self.old) }
+        ensures moved { source_moved self.new ≡ source_moved self.old + result }
+        ensures bytes { take result room.new ++ source_left self.new ≡ source_left self.old }
+        ensures place { source_place self.new ≡ source_place self.old }
+        ensures faults { source_faults self.new ≡ source_faults self.old }
+        ensures most { source_most self.new ≡ source_most self.old }
+    {
+        let rest = &self.bytes.as_slice()[self.at..];
+        let count = copy_front(rest, room, self.most);
+        self.at += count;
+        count
+    }
+
     /// The place of its entry.
     pub(crate) fn place(&self) -> usize
         ensures { result ≡ source_place self.now }
@@ -82,9 +98,6 @@ impl Source for MemSource {
     ghost together = { λ _. refl };
 
     fn read(&mut self, room: &mut [u8]) -> Result<usize, Failed> {
-        let rest = &self.bytes.as_slice()[self.at..];
-        let count = copy_front(rest, room, self.most);
-        self.at += count;
-        Ok(count)
+        Ok(self.give(room))
     }
 }

@@ -12,30 +12,34 @@ pub struct ReaderSource<R: Drop> {
 }
 
 impl<R: Read + Drop> ReaderSource<R> {
+    ghost use Rattle.up_outside.specs.Adapters.{reader_of, reader_faults};
+
     /// A source over the reader, of which no read has failed.
     pub fn new(reader: R) -> ReaderSource<R>
-        ensures over { result.reader ≡ reader }
-        ensures fresh { result.faults ≡ 0 }
+        ensures over { reader_of result ≡ reader }
+        ensures fresh { reader_faults result ≡ 0 }
     {
         ReaderSource { reader, faults: 0 }
     }
 
     /// How many reads failed.
     pub fn faults(&self) -> u64
-        ensures { result ≡ self.now.faults }
+        ensures { result ≡ reader_faults self.now }
     {
         self.faults
     }
 }
 
 impl<R: Read + Drop> Source for ReaderSource<R> {
-    ghost left = { λ s. R.remaining s.reader };
+    ghost use Rattle.up_outside.specs.Adapters.{reader_of, reader_faults};
+
+    ghost left = { λ s. R.remaining (reader_of s) };
 
     ghost place = { λ _. None };
 
     ghost moved = { λ _. None };
 
-    ghost faults = { λ s. s.faults };
+    ghost faults = { λ s. reader_faults s };
 
     ghost together = { λ _. refl };
 

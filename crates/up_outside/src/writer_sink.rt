@@ -18,30 +18,34 @@ pub type StdOut<W> = WriterSink<W>;
 pub type StdErr<W> = WriterSink<W>;
 
 impl<W: Write + Drop> WriterSink<W> {
+    ghost use Rattle.up_outside.specs.Adapters.{writer_of, writer_faults};
+
     /// A sink over the writer, of which no write has failed.
     pub fn new(writer: W) -> WriterSink<W>
-        ensures over { result.writer ≡ writer }
-        ensures fresh { result.faults ≡ 0 }
+        ensures over { writer_of result ≡ writer }
+        ensures fresh { writer_faults result ≡ 0 }
     {
         WriterSink { writer, faults: 0 }
     }
 
     /// How many writes failed.
     pub fn faults(&self) -> u64
-        ensures { result ≡ self.now.faults }
+        ensures { result ≡ writer_faults self.now }
     {
         self.faults
     }
 }
 
 impl<W: Write + Drop> Sink for WriterSink<W> {
-    ghost written = { λ k. W.contents k.writer };
+    ghost use Rattle.up_outside.specs.Adapters.{writer_of, writer_faults};
+
+    ghost written = { λ k. W.contents (writer_of k) };
 
     ghost place = { λ _. None };
 
     ghost moved = { λ _. None };
 
-    ghost faults = { λ k. k.faults };
+    ghost faults = { λ k. writer_faults k };
 
     ghost together = { λ _. refl };
 

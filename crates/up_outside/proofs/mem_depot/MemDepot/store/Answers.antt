@@ -1,4 +1,4 @@
-use Rattle.up_outside.proofs.Rooms.{rooms-insert, rooms-close, room_at}
+use Rattle.up_outside.proofs.Rooms.{rooms-insert, rooms-close}
 use Rattle.up_outside.proofs.mem_depot.MemDepot.store.Goals as goal
 
 pub invariant_of-self-clause-rooms : goal.invariant_of-self-clause-rooms
