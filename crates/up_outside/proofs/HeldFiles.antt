@@ -1,5 +1,5 @@
 -- A list of files as a map from paths to bytes: of a path that stands twice the first file counts.
-use Rattle.std.proofs.Common.{◌≡◌, ◌≢◌, ℕ, zero, suc, ◌+◌, ◌<◌, List, [], ◌∷◌, length, get_or, Bool, true, false, cond, Option, Some, None, slice_get, slice_set, refl, sym, ap, ◌∙◌, arith, ltb, ◌≤◌, inl, inr}
+use Rattle.std.proofs.Common.{◌≡◌, ◌≢◌, ℕ, zero, suc, ◌<◌, List, [], ◌∷◌, length, get_or, Bool, true, false, cond, Option, Some, None, slice_get, slice_set, refl, sym, ap, ◌∙◌, arith, ltb, ◌≤◌, inl, inr}
 use Rattle.std.proofs.lemmas.Bool.{cases_Bool, cases_lt, lt-ltb}
 use Rattle.std.specs.Prelude.{position}
 use Rattle.std.specs.List.{position_or_len}
@@ -139,6 +139,7 @@ held-not files path none =
           | inl within ↦ absurd (let some : Some n ≡ None = rw (lt-ltb n len within) at none in cc)
           | inr beyond ↦ beyond
         ]
+
     not_found : (files : List File) → length files ≤ position_or_len (λ f. bytes_eq f.0 path) files → found path files ≡ None
     not_found [] beyond = refl
     not_found (f ∷ files) beyond =

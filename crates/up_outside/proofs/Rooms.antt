@@ -1,9 +1,8 @@
 -- What is held and what is asked change, and every open sink keeps its room.
-use Rattle.std.proofs.Common.{◌≡◌, ◌≢◌, ℕ, zero, suc, List, [], ◌∷◌, ◌++◌, Bool, true, false, cond, Option, Some, None, Result, Ok, Err, OnOk, OnErr, slice_get, get_or, refl}
+use Rattle.std.proofs.Common.{◌≡◌, ℕ, List, [], ◌∷◌, ◌++◌, Bool, true, false, cond, Option, Some, Result, Ok, Err, OnOk, OnErr, get_or, refl}
 use Rattle.std.specs.Prelude.{is_some}
 use Rattle.std.specs.FinMap.{get, insert, get-insert}
-use Rattle.std.specs.Ordering.{nat_cmp, eq_by_cmp}
-use Rattle.std.specs.Cmp.Lexicographic.{slice_cmp, nat_list_cmp_total}
+use Rattle.std.specs.Cmp.Lexicographic.{nat_list_cmp_total}
 use Rattle.std.proofs.lemmas.List.Elements.{All-push, All-set}
 use Rattle.up_base.specs.declared.refusal.NoMemory.{NoMemory}
 use Rattle.up_outside.specs.Asked.{entry, with_mark, IsOpenAt, Closes}
@@ -11,8 +10,6 @@ use Rattle.up_outside.specs.Held.{Held, KeepsOthers}
 use Rattle.up_outside.specs.Rooms.{HasRoom, HasRooms}
 use Rattle.up_outside.specs.declared.asked.Entry.{Entry}
 use Rattle.up_outside.specs.declared.asked.Side.{Side}
-use Rattle.up_outside.specs.declared.asked.Side.TheVariants as sides
-use Rattle.up_outside.specs.declared.asked.Mark.{Mark}
 use Rattle.up_outside.specs.declared.asked.Mark.TheVariants as marks
 use Rattle.up_outside.proofs.HeldFiles.{same, same-refl, same-false}
 

@@ -12,10 +12,9 @@ mod mem_source;
 mod reader_source;
 mod sink;
 mod source;
-mod writer_sink;
-
 #[cfg(test)]
 mod tests;
+mod writer_sink;
 
 pub use asked::{Entry, Mark, Side};
 pub use depot::Depot;

@@ -1,6 +1,7 @@
 ghost use Rattle.std.specs.Prelude.{◌≡◌};
 
 use crate::{Depot, FileDepot, Mark, MemDepot, MemSink, Side, Sink, Source, StdErr, StdOut};
+use std::fs;
 use std::test::Fail;
 use up_base::{Failed, Refusal};
 
@@ -19,31 +20,56 @@ fn write_once<K: Sink>(sink: &mut K, piece: &[u8; 2]) -> Result<usize, Refusal>
 }
 
 #[test]
-fn a_path_that_is_not_held_is_a_counted_fault(rt: HostRuntime) -> Result<(), Fail> {
+fn a_path_is_a_counted_fault_until_it_is_held(rt: HostRuntime) -> Result<(), Fail> {
     let mut depot = MemDepot::new(rt.alloc());
-    assert!(rt; matches!(depot.open_source("q"), Err(Refusal::Failed)));
-    assert_eq!(rt; depot.source_faults(), 1);
-    assert_eq!(rt; depot.sink_faults(), 0);
     assert_eq!(rt; depot.bytes("q"), None);
+    assert!(rt; matches!(depot.open_source("q"), Err(Refusal::Failed)));
+    depot.hold("q", b"abc")?;
+    assert!(rt; depot.open_source("q").is_ok());
+    assert!(rt; depot.open_sink("r").is_ok());
+    assert_eq!(rt; (depot.source_faults(), depot.sink_faults()), (1, 0));
+    let asked = [
+        ("q", Side::Source, Mark::Refused),
+        ("q", Side::Source, Mark::Open),
+        ("r", Side::Sink, Mark::Open),
+    ];
+    assert_eq!(rt; depot.asked().len(), asked.len());
+    for (entry, (path, side, mark)) in depot.asked().iter().zip(asked) {
+        assert_eq!(rt; entry.path.as_str(), path);
+        assert_eq!(rt; (entry.side, entry.mark), (side, mark));
+    }
+    Ok(())
+}
+
+#[test]
+fn a_source_gives_the_bytes_that_were_held_last(rt: HostRuntime) -> Result<(), Fail> {
+    let mut depot = MemDepot::new(rt.alloc());
     depot.hold("q", b"old")?;
     depot.hold("q", b"abcdef")?;
     assert_eq!(rt; depot.bytes("q"), Some(b"abcdef".as_slice()));
     let mut source = depot.open_source("q")?;
     let mut room = [0; 4];
-    assert_eq!(rt; read_once(&mut source, &mut room)?, 4);
-    assert_eq!(rt; &room, b"abcd");
-    assert_eq!(rt; read_once(&mut source, &mut room)?, 2);
-    assert_eq!(rt; &room, b"efcd");
-    assert_eq!(rt; read_once(&mut source, &mut room)?, 0);
-    depot.close_source(source);
-    assert_eq!(rt; depot.source_faults(), 1);
-    let marks = [Mark::Refused, Mark::Closed { moved: 6, failed: false, shut: true }];
-    assert_eq!(rt; depot.asked().len(), 2);
-    for (entry, mark) in depot.asked().iter().zip(marks) {
-        assert_eq!(rt; entry.path.as_str(), "q");
-        assert_eq!(rt; entry.side, Side::Source);
-        assert_eq!(rt; entry.mark, mark);
+    for (count, after) in [(4, b"abcd"), (2, b"efcd"), (0, b"efcd")] {
+        assert_eq!(rt; source.read(&mut room)?, count);
+        assert_eq!(rt; &room, after);
     }
+    Ok(())
+}
+
+#[test]
+fn a_close_marks_the_entry_with_what_was_moved(rt: HostRuntime) -> Result<(), Fail> {
+    let mut depot = MemDepot::new(rt.alloc());
+    depot.hold("q", b"abc")?;
+    let mut source = depot.open_source("q")?;
+    assert_eq!(rt; read_once(&mut source, &mut [0; 4])?, 3);
+    depot.close_source(source);
+    let closed = Mark::Closed {
+        moved: 3,
+        failed: false,
+        shut: true,
+    };
+    assert_eq!(rt; depot.asked().first().map(|entry| entry.mark), Some(closed));
+    assert_eq!(rt; depot.source_faults(), 0);
     Ok(())
 }
 
@@ -82,17 +108,18 @@ fn a_depot_that_is_cut_moves_a_byte_at_a_time(rt: HostRuntime) -> Result<(), Fai
 fn files_are_written_and_read_back(rt: HostRuntime) -> Result<(), Fail> {
     let mut depot = FileDepot::new(&rt);
     for piece in [b"no", b"ab"] {
-        let mut sink = depot.open_sink("out")?;
+        let mut sink = depot.open_sink("written")?;
         assert_eq!(rt; write_once(&mut sink, piece)?, 2);
-        depot.close_sink("out", sink)?;
+        depot.close_sink("written", sink)?;
     }
-    let mut source = depot.open_source("out")?;
+    let mut source = depot.open_source("written")?;
     let mut room = [0; 4];
     assert_eq!(rt; read_once(&mut source, &mut room)?, 2);
     assert_eq!(rt; &room, b"ab\0\0");
     assert_eq!(rt; read_once(&mut source, &mut room)?, 0);
     depot.close_source(source);
     assert_eq!(rt; (depot.source_faults(), depot.sink_faults()), (0, 0));
+    fs::remove_file(&rt, "written")?;
     Ok(())
 }
 
@@ -100,7 +127,7 @@ fn files_are_written_and_read_back(rt: HostRuntime) -> Result<(), Fail> {
 fn what_a_system_refuses_is_a_counted_fault(rt: HostRuntime) -> Result<(), Fail> {
     let mut depot = FileDepot::new(&rt);
     assert!(rt; matches!(depot.open_source("missing"), Err(Refusal::Failed)));
-    assert!(rt; matches!(depot.open_sink("missing/out"), Err(Refusal::Failed)));
+    assert!(rt; matches!(depot.open_sink("missing/written"), Err(Refusal::Failed)));
     assert_eq!(rt; (depot.source_faults(), depot.sink_faults()), (1, 1));
     let mut folder = depot.open_source(".")?;
     assert_eq!(rt; read_once(&mut folder, &mut [0; 4]), Err(Failed));

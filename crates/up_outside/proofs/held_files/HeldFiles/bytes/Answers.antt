@@ -1,4 +1,4 @@
-use Rattle.std.proofs.Common.{◌≡◌, sym, ◌∙◌}
+use Rattle.std.proofs.Common.{sym, ◌∙◌}
 use Rattle.up_outside.proofs.HeldFiles.{held-at, held-not}
 use Rattle.up_outside.proofs.held_files.HeldFiles.bytes.Goals as goal
 

@@ -1,5 +1,4 @@
-use Rattle.std.proofs.Common.{◌≡◌, true, false, sym, ◌∙◌, ap}
-use Rattle.std.specs.Prelude.{is_some}
+use Rattle.std.proofs.Common.{◌≡◌, true, false, sym, ◌∙◌}
 use Rattle.up_outside.proofs.HeldFiles.{held-put, held-not}
 use Rattle.up_outside.proofs.held_files.HeldFiles.replace.Goals as goal
 

@@ -1,4 +1,4 @@
-use Rattle.std.proofs.Common.{◌≡◌, sym, ◌∙◌}
+use Rattle.std.proofs.Common.{sym, ◌∙◌}
 use Rattle.up_outside.proofs.HeldFiles.{held-put}
 use Rattle.up_outside.proofs.held_files.HeldFiles.set.Goals as goal
 

@@ -9,7 +9,7 @@ invariant_of-self-clause-rooms c =
     rooms-set c.args.self.now.held c.set.new.self c.args.self.now.asked.items c.args.path.now c.new.result c.set.result c.set.ensures.set c.set.ensures.unchanged c.args.self.now.rooms
 
 pub invariant_of-self-2-clause-rooms : goal.invariant_of-self-2-clause-rooms
-invariant_of-self-2-clause-rooms c = 
+invariant_of-self-2-clause-rooms c =
     let set = c.in_ok-set.ensures.set in
     let rooms = rooms-insert c.args.self.now.held c.args.self.now.asked.items c.args.path.now c.new.result c.args.self.now.rooms in
     rw set (rooms-ask _ c.args.self.now.asked.items c.ask.new.asked.items _ c.ask.result c.ask.ensures.added c.ask.ensures.unchanged rooms (λ _ _. is_held _ _ _))
