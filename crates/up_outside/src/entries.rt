@@ -14,7 +14,8 @@ pub(crate) fn ask(
     side: Side,
     mark: Mark,
 ) -> Result<(), NoMemory>
-    ensures added { OnOk result (asked.new.items ≡ asked.old.items ++ entry path.now side mark ∷ []) }
+    ensures added { OnOk result
+        (asked.new.items ≡ asked.old.items ++ entry path.now side mark ∷ []) }
     ensures unchanged { OnErr result (asked.new.items ≡ asked.old.items) }
 {
     let path = Text::from_str(alloc, path)?;

@@ -8,8 +8,8 @@ use std::io::{Error, ErrorKind};
 use std::rt::Files;
 use up_base::{Failed, Refusal};
 
-/// The files of the system, by their paths. It tells nothing of what they hold. A sink empties its file at the open, and
-/// a device, a FIFO or a stream such as `/dev/stdout` serves as a path too.
+/// The files of the system, by their paths. It tells nothing of what they hold. A sink's file is emptied at the open. A
+/// device, a FIFO or a stream such as `/dev/stdout` serves as a path too.
 #[derive(Drop)]
 pub struct FileDepot<'r, R: Files<File = File>> {
     rt: &'r R,
@@ -21,6 +21,7 @@ pub struct FileDepot<'r, R: Files<File = File>> {
 fn refused(error: &Error, faults: &mut u64) -> Refusal
     ensures memory { result ≡ Refusal.NoMemory ↔ error_kind error.now ≡ ErrorKind.OutOfMemory }
     ensures later { faults.old ≤ faults.new }
+    ensures not_counted { result ≡ Refusal.NoMemory → faults.new ≡ faults.old }
     ensures cause { result ≡ Refusal.Failed → Rose faults.old faults.new }
 {
     if error.kind() == ErrorKind::OutOfMemory {

@@ -1,4 +1,4 @@
-ghost use Rattle.std.specs.Prelude.{◌≡◌, ◌<◌, ◌++◌, [], Some, length, min, take, refl, IfOk, OnErr};
+ghost use Rattle.std.specs.Prelude.{◌≡◌, ◌<◌, ◌++◌, ◌-◌, ◌^◌, [], Some, length, min, take, refl, IfOk, OnErr};
 
 use crate::Sink;
 use std::alloc::Global;
@@ -20,6 +20,7 @@ impl MemSink {
     /// A sink that no depot made, as one that stands for standard output in a test. It takes whole pieces.
     pub fn new(alloc: Global) -> MemSink
         ensures bytes { sink_bytes result ≡ [] }
+        ensures most { sink_most result ≡ 2 ^ 64 - 1 }
         ensures place { sink_place result ≡ 0 }
         ensures faults { sink_faults result ≡ 0 }
     {
@@ -59,7 +60,8 @@ impl MemSink {
     /// Adds the front of the piece: as many bytes as there are, and as a write takes at most.
     fn keep(&mut self, piece: &[u8]) -> Result<usize, NoMemory>
         ensures count { IfOk result (λ n. n ≡ min (length piece.now) (sink_most self.old)) }
-        ensures bytes { IfOk result (λ n. sink_bytes self.new ≡ sink_bytes self.old ++ take n piece.now) }
+        ensures bytes { IfOk result (λ n.
+            sink_bytes self.new ≡ sink_bytes self.old ++ take n piece.now) }
         ensures unchanged { OnErr result (sink_bytes self.new ≡ sink_bytes self.old) }
         ensures place { sink_place self.new ≡ sink_place self.old }
         ensures faults { sink_faults self.new ≡ sink_faults self.old }
