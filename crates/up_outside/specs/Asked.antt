@@ -28,7 +28,8 @@ pub record AsksOpen (old : List Entry) (new : Option (List Entry)) (path : List 
   pub nothing_yet : moved ≡ Some 0
 
 -- the entry at the told place has this path and side, and is open
-pub record IsOpenAt (asked : List Entry) (place : Option ℕ) (side : Side) (path : List ℕ) : Type 0 where
+pub record IsOpenAt (asked : List Entry) (place : Option ℕ) (side : Side)
+    (path : List ℕ) : Type 0 where
   pub at : ℕ
   pub told : place ≡ Some at
   pub open_entry : slice_get asked at ≡ Some (entry path side marks.Open)

@@ -1,4 +1,10 @@
+pub mod Adapters
 pub mod Asked
 pub mod Counts
 pub mod Held
+pub mod HeldFiles
+pub mod MemDepot
+pub mod MemSink
+pub mod MemSource
+pub mod Rooms
 pub mod Streams

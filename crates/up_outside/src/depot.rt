@@ -22,10 +22,12 @@ pub trait Depot {
     /// One entry for each open that was refused or succeeded, in order, where they are told.
     ghost asked: { Self → Option (List AskedEntry) };
 
-    /// How many opens of sources and closes of faulty sources failed. The count stands still at its last value.
+    /// How many opens of sources failed, and closes of sources of which a read had. The count stands still at its last
+    /// value.
     ghost source_faults: { Self → ℕ };
 
-    /// How many opens and closes of sinks failed. The count stands still at its last value.
+    /// How many opens and closes of sinks failed, and closes of sinks of which a write had. The count stands still at
+    /// its last value.
     ghost sink_faults: { Self → ℕ };
 
     /// Opens what lies at the path for reading. A path at which nothing lies is a fault.

@@ -1,0 +1,23 @@
+-- What a sink in memory tells.
+use Rattle.std.specs.Prelude.{ℕ, List, length}
+use Rattle.up_outside.specs.declared.mem_sink.MemSink.{MemSink}
+
+-- what was written
+abbrev pub sink_bytes : MemSink → List ℕ
+sink_bytes k = k.bytes
+
+-- how many bytes its writes took
+abbrev pub sink_moved : MemSink → ℕ
+sink_moved k = length k.bytes
+
+-- the place of its entry in its depot's `asked`
+abbrev pub sink_place : MemSink → ℕ
+sink_place k = k.place
+
+-- how many of its writes failed
+abbrev pub sink_faults : MemSink → ℕ
+sink_faults k = k.faults
+
+-- the most bytes that a write takes
+abbrev pub sink_most : MemSink → ℕ
+sink_most k = k.most
