@@ -3,6 +3,8 @@
 
 mod packet;
 mod payload;
+#[cfg(test)]
+mod tests;
 mod ts_header;
 mod ts_refused;
 
