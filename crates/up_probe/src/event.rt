@@ -19,7 +19,7 @@ impl Event {
     ghost use Rattle.up_probe.specs.Event.{kind_of};
 
     /// The kind that a probe's set names.
-    pub fn kind(self) -> EventKind
+    pub(crate) fn kind(self) -> EventKind
         ensures { result ≡ kind_of self }
     {
         match self {

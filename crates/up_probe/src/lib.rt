@@ -6,6 +6,8 @@ mod caught;
 mod event;
 mod probe_chain;
 mod sums;
+#[cfg(test)]
+mod tests;
 
 pub use caught::Caught;
 pub use event::Event;

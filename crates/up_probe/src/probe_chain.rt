@@ -1,6 +1,6 @@
-ghost use Rattle.std.specs.Prelude.{◌≡◌, ◌+◌, ◌≤◌, length, slice_get, slice_set, replicate, Some, IfOk};
-ghost use Rattle.up_probe.specs.Chain.{catching_depth, tally_at, untouched};
-ghost use Rattle.up_probe.specs.Event.{kind_of, no_events, with_event};
+ghost use Rattle.std.specs.Prelude.{◌≡◌, ℕ, ◌≤◌, length, IfOk};
+ghost use Rattle.up_probe.specs.Chain.{IsAdded, catching_depth, tally_at};
+ghost use Rattle.up_probe.specs.Event.{kind_of, no_events};
 
 use crate::catching::catching_probe;
 use crate::sums::add;
@@ -32,7 +32,8 @@ impl Model for ProbeChain {
 impl ProbeChain {
     /// A chain of one probe for each set, that has caught nothing.
     pub fn new(alloc: Global, sets: &[CatchSet]) -> Result<ProbeChain, NoMemory>
-        ensures { IfOk result (λ chain. chain ≡ untouched sets.now) }
+        ensures sets { IfOk result (λ chain. chain.sets ≡ sets.now) }
+        ensures nothing_caught { IfOk result (λ chain. (depth : ℕ) → tally_at chain depth ≡ no_events) }
     {
         Ok(ProbeChain {
             sets: Vec::from_slice(alloc, sets)?,
@@ -44,8 +45,7 @@ impl ProbeChain {
     pub fn throw(&mut self, e: Event) -> Caught
         ensures depth { result.depth ≡ catching_depth (kind_of e) self.old.sets }
         ensures sets { self.new.sets ≡ self.old.sets }
-        ensures added { self.new.tallies ≡
-            slice_set self.old.tallies result.depth (with_event e (tally_at self.old result.depth)) }
+        ensures added { IsAdded e result.depth self.old self.new }
     {
         let depth = catching_probe(&self.sets, e.kind()).unwrap_or(self.sets.len());
         add(&mut self.tallies[depth], e);

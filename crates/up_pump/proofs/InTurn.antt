@@ -1,8 +1,8 @@
 -- A pump that stays due is given in its turn.
-use Rattle.std.proofs.Common.{◌≡◌, ◌⊎◌, ℕ, zero, suc, ◌+◌, ◌-◌, ◌<◌, ◌≤◌, true, length, Some, arith, inl, inr, refl, sym, ap, ◌∙◌}
+use Rattle.std.proofs.Common.{◌≡◌, ℕ, zero, suc, ◌+◌, ◌-◌, ◌<◌, ◌≤◌, Some, arith, inl, inr, ap, ◌∙◌}
 use Rattle.std.specs.Option.{option_or}
 use Rattle.std.proofs.lemmas.Bool.{cases_lt}
-use Rattle.up_pump.specs.Circle.{is_due_at, first_due, start_of, next_pump}
+use Rattle.up_pump.specs.Circle.{start_of, next_pump}
 use Rattle.up_pump.specs.Pumps.{Pumps}
 use Rattle.up_pump.specs.Turns.{AreCalls, StaysDue, IsGiven}
 use Rattle.up_pump.proofs.FirstDue.{IsAhead, Nears, next_step, is_due_at-within}

@@ -11,7 +11,7 @@ impl Pump {
     ghost use Rattle.up_pump.specs.Pump.{is_due};
 
     /// Whether the pump is ready and nothing holds it back.
-    pub fn is_due(&self) -> bool
+    pub(crate) fn is_due(&self) -> bool
         ensures { result ≡ is_due self.now }
     {
         self.ready && self.blockers == 0

@@ -1,19 +1,14 @@
 ghost use Rattle.std.specs.Prelude.{◌≡◌, ◌+◌, ◌-◌, ◌<◌, ◌↔◌, length, replicate, true, false, None, IfOk, IsErr, OnOk, OnErr};
 ghost use Rattle.std.specs.Option.{option_or};
-ghost use Rattle.up_pump.specs.Circle.{first_due, is_due_at, next_pump};
+ghost use Rattle.up_pump.specs.Circle.{next_pump};
 ghost use Rattle.up_pump.specs.Pump.{idle};
 ghost use Rattle.up_pump.specs.Pumps.{pump_at, with_pump};
 
-use crate::Pump;
+use crate::circle::first_due;
+use crate::{Pump, TooManyBlockers};
 use std::alloc::Global;
 use std::marker::Model;
-use thiserror::Error;
 use up_base::NoMemory;
-
-/// A pump has 2^32 - 1 blockers, and no more can be counted.
-#[derive(Clone, Copy, Debug, PartialEq, Eq, Error)]
-#[error("a pump has 4294967295 blockers, and no more can be counted")]
-pub struct TooManyBlockers;
 
 /// Pumps in a circle, of which one is given at a time.
 #[derive(Debug, Drop)]
@@ -106,20 +101,4 @@ impl Loop {
         self.last = Some(next);
         Some(next)
     }
-}
-
-/// Whether there is a pump of this number, and it is due.
-fn is_due_at(pumps: &[Pump], number: usize) -> bool
-    ensures { result ≡ is_due_at pumps.now number }
-{
-    pumps.get(number).is_some_and(Pump::is_due)
-}
-
-/// The first pump that is due, in the circle that begins at a number.
-fn first_due(pumps: &[Pump], start: usize) -> Option<usize>
-    ensures { result ≡ first_due pumps.now start }
-{
-    (start..pumps.len())
-        .chain(0..start)
-        .find(|number| is_due_at(pumps, *number))
 }
