@@ -1,0 +1,3 @@
+mod CircleExamples
+pub mod FirstDue
+pub mod InTurn

@@ -1,0 +1,4 @@
+pub mod Circle
+pub mod Pump
+pub mod Pumps
+pub mod Turns

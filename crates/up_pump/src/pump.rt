@@ -1,0 +1,19 @@
+ghost use Rattle.std.specs.Prelude.{◌≡◌};
+
+/// Whether a pump has work, and how many hold it back.
+#[derive(Clone, Copy, Debug, Default, PartialEq, Eq)]
+pub struct Pump {
+    pub ready: bool,
+    pub blockers: u32,
+}
+
+impl Pump {
+    ghost use Rattle.up_pump.specs.Pump.{is_due};
+
+    /// Whether the pump is ready and nothing holds it back.
+    pub(crate) fn is_due(&self) -> bool
+        ensures { result ≡ is_due self.now }
+    {
+        self.ready && self.blockers == 0
+    }
+}

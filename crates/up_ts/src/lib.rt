@@ -1,0 +1,14 @@
+//! The header of a transport stream packet, and the place where its payload begins: ISO/IEC 13818-1.
+#![tactic(auto)]
+
+mod packet;
+mod payload;
+#[cfg(test)]
+mod tests;
+mod ts_header;
+mod ts_refused;
+
+pub use packet::{MAX_FIELD, NULL_PID, SYNC_BYTE, TS_SIZE};
+pub use payload::payload_at;
+pub use ts_header::{TsHeader, header};
+pub use ts_refused::TsRefused;
