@@ -1,4 +1,4 @@
--- The document that a text is: at most 1,048,576 bytes of UTF-8 that are TOML, by the grammar of `toml`.
+-- The document that a text is: at most 1,048,576 bytes of UTF-8, and TOML by the grammar of `toml`.
 use Rattle.std.specs.Prelude.{ℕ, List, length, nat_lt, Option, Some, None, Ok, Err, if◌then◌else◌}
 use Rattle.std.specs.Str.{is_utf8}
 use Rattle.toml.specs.Data.{Members}

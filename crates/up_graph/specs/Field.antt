@@ -1,11 +1,11 @@
 -- The fields of a table: each has a value, or is wrong and told by its name.
-use Rattle.std.specs.Prelude.{ℕ, ◌==◌, Bool, ◌&&◌, not, List, [], ◌∷◌, length, nat_le, Option, Some, Result, Ok, Err, if◌then◌else◌}
+use Rattle.std.specs.Prelude.{ℕ, pos, ◌==◌, Bool, ◌&&◌, not, List, [], ◌∷◌, length, nat_le, Option, Some, None, Result, Ok, Err, if◌then◌else◌}
 use Rattle.std.specs.List.{list_any}
 use Rattle.std.specs.Str.{bytes_eq}
 use Rattle.std.specs.Borrow.{Bor}
 use Rattle.std.specs.Ordering.{nat_cmp, match_ordering}
 use Rattle.std.specs.Cmp.Lexicographic.{slice_cmp}
-use Rattle.toml.specs.Data.{Data, string, Members, no_members, member, get_member}
+use Rattle.toml.specs.Data.{Data, string, integer, Members, no_members, member, get_member}
 use Rattle.up_base.specs.Name.{is_name}
 use Rattle.up_model.specs.declared.limits.TheConstants.{MAX_PATH}
 
@@ -50,7 +50,8 @@ abbrev pub text_at : List ℕ → Members → Field (List ℕ)
 text_at key table = text_in key (get_member key table)
 
 abbrev pub is_path : List ℕ → Bool
-is_path path = nat_le 1 (length path) && (nat_le (length path) MAX_PATH && not (list_any (λ byte. byte == 0) path))
+is_path path =
+    nat_le 1 (length path) && (nat_le (length path) MAX_PATH && not (list_any (λ byte. byte == 0) path))
 
 abbrev pub path_in : List ℕ → Field (List ℕ) → Field (List ℕ)
 path_in key (Ok path) = if is_path path then Ok path else Err key
@@ -59,6 +60,23 @@ path_in key (Err _) = Err key
 -- a path: a string of 1 to 4,096 bytes, none of them zero
 abbrev pub path_at : List ℕ → Members → Field (List ℕ)
 path_at key table = path_in key (text_at key table)
+
+abbrev pub is_within : ℕ → ℕ → ℕ → Bool
+is_within low high number = nat_le low number && nat_le number high
+
+abbrev pub or_wrong : {A : Type 0} → List ℕ → Option A → Field A
+or_wrong key (Some value) = Ok value
+or_wrong key None = Err key
+
+abbrev pub number_in : List ℕ → ℕ → ℕ → Option ℕ → Option Data → Field ℕ
+number_in key low high missing None = or_wrong key missing
+number_in key low high missing (Some (integer (pos number))) =
+    if is_within low high number then Ok number else Err key
+number_in key low high missing _ = Err key
+
+-- an integer from low to high, or what stands for a missing one
+abbrev pub number_at : List ℕ → ℕ → ℕ → Option ℕ → Members → Field ℕ
+number_at key low high missing table = number_in key low high missing (get_member key table)
 
 abbrev pub is_among : List ℕ → List (List ℕ) → Bool
 is_among key names = list_any (bytes_eq key) names
@@ -73,6 +91,6 @@ abbrev pub each_known : List (List ℕ) → List (List ℕ) → Field (Unit {0})
 each_known known [] = Ok tt
 each_known known (key ∷ others) = if is_among key known then each_known known others else Err key
 
--- no other keys stand in the table; as keys stand in byte order, the first of the others is the least
+-- no other keys stand in the table; keys stand in byte order, so the first of the others is the least
 abbrev pub known_alone : List (List ℕ) → Members → Field (Unit {0})
 known_alone known table = each_known known (keys table)

@@ -17,7 +17,8 @@ abbrev pub placed : KindName → Stand → Field (Unit {0})
 placed kind stand = if is_placed kind stand then Ok tt else Err (codes "kind")
 
 abbrev pub is_input : Option (List ℕ) → Option Data → Field (Unit {0})
-is_input (Some name) (Some (string text)) = if bytes_eq name text then Ok tt else Err (codes "input")
+is_input (Some name) (Some (string text)) =
+    if bytes_eq name text then Ok tt else Err (codes "input")
 is_input _ _ = Err (codes "input")
 
 -- the input is the name of the pipe before

@@ -15,7 +15,8 @@ draft_in stand _ = Err (codes "kind")
 
 -- the pipe that stands so, numbered from 1 in a refusal
 abbrev pub pipe_of : Stand → Data → Checked Pipe
-pipe_of stand value = numbered (stand.place + 1) (field_map (pipe_from stand.place) (draft_in stand value))
+pipe_of stand value =
+    numbered (stand.place + 1) (field_map (pipe_from stand.place) (draft_in stand value))
 
 abbrev pub is_empty : Items → Bool
 is_empty no_items = true

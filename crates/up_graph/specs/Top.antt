@@ -61,4 +61,6 @@ second (Err key) = Err key
 -- the tables of the pipes, where no other key stands at the top
 abbrev pub tables_of : Option Items → Members → Checked Items
 tables_of found top =
-    numbered 0 (second (both (known_alone (codes "pipe" ∷ codes "version" ∷ []) top) (tables_in found)))
+    numbered 0 (second
+    (both (known_alone (codes "pipe" ∷ codes "version" ∷ []) top)
+    (tables_in found)))
