@@ -7,10 +7,12 @@ use Rattle.up_graph.specs.Answers.{Checked}
 use Rattle.up_graph.specs.declared.graph_refused.GraphRefused.TheVariants.{TooBig, NotToml}
 use Rattle.up_model.specs.declared.limits.TheConstants.{MAX_GRAPH}
 
+-- what the grammar gives; a text without a document is refused
 abbrev pub parsed : Option Members → Checked Members
 parsed None = Err NotToml
 parsed (Some top) = Ok top
 
+-- the size is looked at first, then the encoding, then the grammar
 unfoldable pub document_of : List ℕ → Checked Members
 document_of text =
     if nat_lt MAX_GRAPH (length text) then Err (TooBig (length text))

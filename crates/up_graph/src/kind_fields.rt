@@ -2,7 +2,7 @@
 ghost use Rattle.std.specs.Prelude.{◌≡◌};
 ghost use Rattle.toml.specs.View.{table_view};
 ghost use Rattle.up_graph.specs.Field.{seen};
-ghost use Rattle.up_graph.specs.Kinds.{idem_of, kind_name_of, kind_of, kind_view, sink_of, source_of};
+ghost use Rattle.up_graph.specs.KindFields.{idem_of, kind_name_of, kind_of, kind_view, sink_of, source_of};
 
 use crate::field::{both, known_alone, number_at, path_at, text_at};
 use toml::Table;

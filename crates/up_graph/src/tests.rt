@@ -1,3 +1,6 @@
+mod tables;
+
+use self::tables::{FIRST_PIPES, LAST_PIPES, MIDDLE_PIPES, ONLY_PIPES, SPELLINGS, TOPS};
 use super::*;
 use std::string::String;
 use std::test::*;
@@ -99,346 +102,15 @@ fn a_chain_of_three_pipes_gives_its_graph(rt: HostRuntime) {
     }
 }
 
-/// Whole texts, and what is looked at before the pipes.
-static TOPS: [(&str, &str); 37] = [
-    ("", "BadVersion"),
-    ("version = ", "NotToml"),
-    ("version = 1\nversion = 1", "NotToml"),
-    ("version = 1\n[[pipe]", "NotToml"),
-    ("version = 1 pipe = []", "NotToml"),
-    ("version = 9223372036854775808", "NotToml"),
-    ("version = 2", "BadVersion 2"),
-    ("version = 0", "BadVersion 0"),
-    ("version = -1", "BadVersion -1"),
-    ("version = 0x2", "BadVersion 2"),
-    (
-        "version = 9223372036854775807",
-        "BadVersion 9223372036854775807",
-    ),
-    ("version = 1.0", "BadVersion"),
-    ("version = '1'", "BadVersion"),
-    ("version = true", "BadVersion"),
-    ("version = [1]", "BadVersion"),
-    ("[version]\nnumber = 1", "BadVersion"),
-    ("pipe = [{}]", "BadVersion"),
-    ("version = 2\npipe = []", "BadVersion 2"),
-    ("version = 1", "NoPipes"),
-    ("version = 1\npipe = []", "NoPipes"),
-    ("version = 1\npipe = []\na = 1", "NoPipes"),
-    ("version = 1\na = 1", "NoPipes"),
-    ("version = 1\npipe = 5", "0: pipe"),
-    ("version = 1\npipe = 5\na = 1", "0: a"),
-    ("version = 1\npipe = 5\nzz = 1", "0: pipe"),
-    ("version = 1\npipe = {}", "0: pipe"),
-    ("version = 1\n[pipe]\nname = 'a'", "0: pipe"),
-    ("version = 1\npipe.name = 'a'", "0: pipe"),
-    ("version = 1\npipe = [1]", "0: pipe"),
-    ("version = 1\npipe = [{}, 1]", "0: pipe"),
-    ("version = 1\npipe = [[{}]]", "0: pipe"),
-    ("version = 1\npipe = [{}]\nq = 1\nb = 1", "0: b"),
-    ("version = 1\npipe = [{}]\n'' = 1", "0: "),
-    ("version = 1\npipe = [{}]\nVersion = 1", "0: Version"),
-    ("version = 1\npipe = [{}]\na.b = 1", "0: a"),
-    ("version = 1\npipe = [{}]", "1: kind"),
-    ("version = 1\npipe = [{a = 1}, {}]", "1: kind"),
-];
-
-/// Whole texts that are spelled in odd ways.
-static SPELLINGS: [(&str, &str); 15] = [
-    (
-        "version = 1\n[[pipe]]\nname = 'a'\nkind = 'source'\npath = 'i'\n[[pipe]]\nname = 'b'\nkind = 'sink'\ninput = 'a'\npath = 'o'\n",
-        "source i 1099511627776 sink o ",
-    ),
-    (
-        "version = 0x1\n# a comment\n[[pipe]]\nname = 'a'\nkind = 'source'\npath = 'i'\nlimit = 0x100_0000_0000\n[[pipe]]\nname = 'b'\nkind = 'sink'\ninput = 'a'\npath = 'o'\n",
-        "source i 1099511627776 sink o ",
-    ),
-    (
-        "\"version\" = 0b1\n[[ 'pipe' ]]\n'name' = \"a\"\n\"kind\" = 'source'\npath = \"\\u0069\"\n[[pipe]]\nname = 'b'\nkind = 'sink'\ninput = 'a'\npath = 'o'\n",
-        "source i 1099511627776 sink o ",
-    ),
-    (
-        "\u{feff}version = 1\n[[pipe]]\nname = 'a'\nkind = 'source'\npath = 'i'\n[[pipe]]\nname = 'b'\nkind = 'sink'\ninput = 'a'\npath = 'o'\n",
-        "source i 1099511627776 sink o ",
-    ),
-    (
-        "version = 1\r\n[[pipe]]\r\nname = 'a'\r\nkind = 'source'\r\npath = 'i'\r\n[[pipe]]\r\nname = 'b'\r\nkind = 'sink'\r\ninput = 'a'\r\npath = 'o'\r\n",
-        "source i 1099511627776 sink o ",
-    ),
-    (
-        "version = 1\n[[pipe]]\nname = 'a'\nkind = 'source'\npath = '''i'''\n[[pipe]]\nname = 'b'\nkind = 'sink'\ninput = 'a'\npath = \"\"\"\\\no\"\"\"\n",
-        "source i 1099511627776 sink o ",
-    ),
-    (
-        "version = 1\n[[pipe]]\nname = 'a'\nkind = 'source'\npath = \"\\x69\"\n[[pipe]]\nname = 'b'\nkind = 'sink'\ninput = 'a'\npath = 'o'\n",
-        "source i 1099511627776 sink o ",
-    ),
-    (
-        "version = 1\npipe = [{name = 'a', kind = 'source', path = 'i'},\n{name = 'b', kind = 'sink', input = 'a', path = 'o'},]",
-        "source i 1099511627776 sink o ",
-    ),
-    (
-        "version = 1\npipe = [{name = 'a',\nkind = 'source',\npath = 'i'}, {name = 'b', kind = 'sink', input = 'a', path = 'o'}]",
-        "source i 1099511627776 sink o ",
-    ),
-    (
-        "version = 1\n[[pipe]]\nname = 'a'\nkind = 'source'\npath = 'i'\nlimit = 1_099_511_627_776\n[[pipe]]\nname = 'b'\nkind = 'sink'\ninput = 'a'\npath = 'o'\n",
-        "source i 1099511627776 sink o ",
-    ),
-    (
-        "version = 1\n[[pipe]]\nname = 'a'\nkind = 'source'\npath = 'i'\nlimit = 0o20000000000000\n[[pipe]]\nname = 'b'\nkind = 'sink'\ninput = 'a'\npath = 'o'\n",
-        "source i 1099511627776 sink o ",
-    ),
-    (
-        "version = 1\n[[pipe]]\nname = 'a'\nkind = 'source'\npath = 'i'\nlimit = 0b101\n[[pipe]]\nname = 'b'\nkind = 'sink'\ninput = 'a'\npath = 'o'\n",
-        "source i 5 sink o ",
-    ),
-    (
-        "version = 1\n[[pipe]]\nname = 'a'\nkind = 'source'\npath = 'i'\nlimit = +5\n[[pipe]]\nname = 'b'\nkind = 'sink'\ninput = 'a'\npath = 'o'\n",
-        "source i 5 sink o ",
-    ),
-    (
-        "version = 1\n[[pipe]]\nname = 'a'\nkind = 'source'\npath = 'i'\n[pipe.control]\nat = 1\n[[pipe]]\nname = 'b'\nkind = 'sink'\ninput = 'a'\npath = 'o'\n",
-        "1: control",
-    ),
-    (
-        "version = 1\n[[pipe]]\nname = 'a'\nkind = 'source'\npath.file = 'i'\n[[pipe]]\nname = 'b'\nkind = 'sink'\ninput = 'a'\npath = 'o'\n",
-        "1: path",
-    ),
-];
-
-/// The fields of pipe 1, before a sink that takes from `a`.
-static FIRST_PIPES: [(&str, &str); 44] = [
-    (
-        "name = 'a', kind = 'source', path = 'i'",
-        "source i 1099511627776 sink o ",
-    ),
-    ("kind = 'source', path = 'i'", "1: name"),
-    ("name = 1, kind = 'source', path = 'i'", "1: name"),
-    ("name = '', kind = 'source', path = 'i'", "1: name"),
-    ("name = 'a b', kind = 'source', path = 'i'", "1: name"),
-    ("name = 'ä', kind = 'source', path = 'i'", "1: name"),
-    ("name = 'a', path = 'i'", "1: kind"),
-    ("name = 'a', kind = 1, path = 'i'", "1: kind"),
-    ("name = 'a', kind = ['source'], path = 'i'", "1: kind"),
-    ("name = 'a', kind = 'Source', path = 'i'", "1: kind"),
-    ("name = 'a', kind = 'pump', path = 'i'", "1: kind"),
-    ("name = 'a', kind = '', path = 'i'", "1: kind"),
-    ("name = 'a', kind = 'source'", "1: path"),
-    ("name = 'a', kind = 'source', path = 1", "1: path"),
-    ("name = 'a', kind = 'source', path = ['i']", "1: path"),
-    ("name = 'a', kind = 'source', path = ''", "1: path"),
-    (
-        "name = 'a', kind = 'source', path = \"i\\u0000\"",
-        "1: path",
-    ),
-    (
-        "name = 'a', kind = 'source', path = 'i', limit = 0",
-        "source i 0 sink o ",
-    ),
-    (
-        "name = 'a', kind = 'source', path = 'i', limit = 1099511627776",
-        "source i 1099511627776 sink o ",
-    ),
-    (
-        "name = 'a', kind = 'source', path = 'i', limit = 1099511627777",
-        "1: limit",
-    ),
-    (
-        "name = 'a', kind = 'source', path = 'i', limit = 9223372036854775807",
-        "1: limit",
-    ),
-    (
-        "name = 'a', kind = 'source', path = 'i', limit = 9223372036854775808",
-        "NotToml",
-    ),
-    (
-        "name = 'a', kind = 'source', path = 'i', limit = 18446744073709551616",
-        "NotToml",
-    ),
-    (
-        "name = 'a', kind = 'source', path = 'i', limit = -1",
-        "1: limit",
-    ),
-    (
-        "name = 'a', kind = 'source', path = 'i', limit = -9223372036854775808",
-        "1: limit",
-    ),
-    (
-        "name = 'a', kind = 'source', path = 'i', limit = 5.0",
-        "1: limit",
-    ),
-    (
-        "name = 'a', kind = 'source', path = 'i', limit = '5'",
-        "1: limit",
-    ),
-    (
-        "name = 'a', kind = 'source', path = 'i', limit = [5]",
-        "1: limit",
-    ),
-    (
-        "name = 'a', kind = 'source', path = 'i', input = 'a'",
-        "1: input",
-    ),
-    (
-        "name = 'a', kind = 'source', path = 'i', worker = 'main'",
-        "1: worker",
-    ),
-    (
-        "name = 'a', kind = 'source', path = 'i', catch = []",
-        "1: catch",
-    ),
-    (
-        "name = 'a', kind = 'source', path = 'i', queue = 64",
-        "1: queue",
-    ),
-    (
-        "name = 'a', kind = 'source', path = 'i', select = 0",
-        "1: select",
-    ),
-    (
-        "name = 'a', kind = 'source', path = 'i', form = 'raw'",
-        "1: form",
-    ),
-    (
-        "name = 'a', kind = 'source', path = 'i', block = 4096",
-        "1: block",
-    ),
-    ("name = 'a', kind = 'source', path = 'i', '' = 1", "1: "),
-    (
-        "name = 'a', kind = 'source', path = 'i', Path = 'i'",
-        "1: Path",
-    ),
-    ("name = 'a b', kind = 'source', zz = 1", "1: name"),
-    ("name = 1, kind = 'source', align = 1", "1: align"),
-    (
-        "name = 'a', kind = 'source', path = '', limit = -1, zz = 1",
-        "1: limit",
-    ),
-    ("name = 1, kind = 'pump', align = 1", "1: kind"),
-    ("name = 'a', kind = 'idem', input = 'x'", "1: input"),
-    ("name = 'a', kind = 'idem'", "1: input"),
-    (
-        "name = 'a', kind = 'sink', input = 'a', path = 'o'",
-        "1: input",
-    ),
-];
-
-/// The fields of pipe 2, between a source `a` and a sink that takes from `b`.
-static MIDDLE_PIPES: [(&str, &str); 23] = [
-    (
-        "name = 'b', kind = 'idem', input = 'a'",
-        "source i 1099511627776 idem sink o ",
-    ),
-    ("name = 'b', kind = 'idem', input = 'x'", "2: input"),
-    ("name = 'b', kind = 'idem', input = 'b'", "2: input"),
-    ("name = 'b', kind = 'idem', input = 'A'", "2: input"),
-    ("name = 'b', kind = 'idem', input = ''", "2: input"),
-    ("name = 'b', kind = 'idem', input = ['a']", "2: input"),
-    ("name = 'b', kind = 'idem', input = ['a', 'a']", "2: input"),
-    ("name = 'b', kind = 'idem', input = 1", "2: input"),
-    ("name = 'b', kind = 'idem'", "2: input"),
-    ("kind = 'idem', input = 'a'", "2: name"),
-    ("kind = 'idem', input = 'x'", "2: input"),
-    (
-        "name = 'b', kind = 'sink', input = 'a', path = 'p'",
-        "2: kind",
-    ),
-    (
-        "name = 'b', kind = 'sink', input = 'x', path = 'p'",
-        "2: input",
-    ),
-    ("name = 'b', kind = 'sink', input = 'a'", "2: kind"),
-    ("name = 'b', kind = 'source', path = 'i'", "2: kind"),
-    (
-        "name = 'b', kind = 'source', path = 'i', input = 'a'",
-        "2: input",
-    ),
-    (
-        "name = 'b', kind = 'source', path = 'i', limit = -1",
-        "2: kind",
-    ),
-    (
-        "name = 'b', kind = 'source', path = 'i', block = 1",
-        "2: block",
-    ),
-    ("name = 'b', kind = 'pump', block = 1", "2: kind"),
-    (
-        "name = 'b', kind = 'idem', input = 'a', path = 'p'",
-        "2: path",
-    ),
-    (
-        "name = 'b', kind = 'idem', input = 'a', limit = 5",
-        "2: limit",
-    ),
-    (
-        "name = 'b', kind = 'idem', input = 'a', queue = 64",
-        "2: queue",
-    ),
-    ("name = 'a', kind = 'idem', input = 'a'", "3: input"),
-];
-
-/// The fields of pipe 2, behind a source `a`.
-static LAST_PIPES: [(&str, &str); 14] = [
-    (
-        "name = 'b', kind = 'sink', input = 'a', path = 'o'",
-        "source i 1099511627776 sink o ",
-    ),
-    (
-        "name = 'a', kind = 'sink', input = 'a', path = 'i'",
-        "source i 1099511627776 sink i ",
-    ),
-    ("name = 'b', kind = 'sink', input = 'a'", "2: path"),
-    (
-        "name = 'b', kind = 'sink', input = 'a', path = ''",
-        "2: path",
-    ),
-    (
-        "name = 'b', kind = 'sink', input = 'a', path = 1",
-        "2: path",
-    ),
-    (
-        "name = 'b', kind = 'sink', input = 'a', path = 'o', limit = 5",
-        "2: limit",
-    ),
-    (
-        "name = 'b', kind = 'sink', input = 'a', path = 'o', form = 'raw'",
-        "2: form",
-    ),
-    ("name = 'b', kind = 'sink', path = 'o'", "2: input"),
-    (
-        "name = 'b', kind = 'sink', input = ['a'], path = 'o'",
-        "2: input",
-    ),
-    (
-        "name = 'b', kind = 'sink', input = 'a.', path = 'o'",
-        "2: input",
-    ),
-    ("kind = 'sink', input = 'a', path = 'o'", "2: name"),
-    ("name = 'b', kind = 'idem', input = 'a'", "2: kind"),
-    ("name = 'b', kind = 'idem', input = 'x'", "2: input"),
-    ("name = 'b', kind = 'source', path = 'i'", "2: kind"),
-];
-
-/// The fields of the one pipe of a file.
-static ONLY_PIPES: [(&str, &str); 5] = [
-    ("name = 'a', kind = 'source', path = 'i'", "1: kind"),
-    (
-        "name = 'a', kind = 'source', path = 'i', input = 'x'",
-        "1: input",
-    ),
-    ("name = 'a', kind = 'idem', input = 'a'", "1: input"),
-    (
-        "name = 'a', kind = 'sink', input = 'a', path = 'o'",
-        "1: input",
-    ),
-    ("", "1: kind"),
-];
-
-/// A line for each text that doesn't give what stands beside it.
-fn wrong_texts(rt: &HostRuntime, table: &[(&'static str, &'static str)]) -> Result<String, Fail> {
+/// A line for each text that doesn't give what stands beside it, where these pipes follow it.
+fn wrong_texts(
+    rt: &HostRuntime,
+    table: &[(&'static str, &'static str)],
+    after: &str,
+) -> Result<String, Fail> {
     let mut wrong = String::new(rt.alloc());
-    for (text, wanted) in table {
+    for (start, wanted) in table {
+        let text = format!(in rt.alloc(); "{start}{after}")?;
         let told = answer(rt, text.as_bytes())?;
         if told.as_str() != *wanted {
             let line = format!(in rt.alloc(); "{text}\ngives {told}\n")?;
@@ -469,14 +141,15 @@ fn wrong_pipes(
 
 #[test]
 fn the_top_of_a_file_is_looked_at_in_order(rt: HostRuntime) -> Result<(), Fail> {
-    let wrong = wrong_texts(&rt, &TOPS)?;
+    let wrong = wrong_texts(&rt, &TOPS, "")?;
     assert_eq!(rt; wrong.as_str(), "");
     Ok(())
 }
 
 #[test]
 fn odd_spellings_of_toml_mean_the_same(rt: HostRuntime) -> Result<(), Fail> {
-    let wrong = wrong_texts(&rt, &SPELLINGS)?;
+    let sink = "\n[[pipe]]\nname = 'b'\nkind = 'sink'\ninput = 'a'\npath = 'o'\n";
+    let wrong = wrong_texts(&rt, &SPELLINGS, sink)?;
     assert_eq!(rt; wrong.as_str(), "");
     Ok(())
 }
