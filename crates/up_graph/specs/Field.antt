@@ -55,7 +55,8 @@ text_at key table = text_in key (get_member key table)
 -- a text of 1 to 4,096 bytes, none of them zero
 abbrev pub is_path : List ℕ → Bool
 is_path path =
-    nat_le 1 (length path) && (nat_le (length path) MAX_PATH && not (list_any (λ byte. byte == 0) path))
+    nat_le 1 (length path)
+    && (nat_le (length path) MAX_PATH && not (list_any (λ byte. byte == 0) path))
 
 -- the string is a path
 abbrev pub path_in : List ℕ → Field (List ℕ) → Field (List ℕ)
@@ -100,6 +101,6 @@ abbrev pub each_known : List (List ℕ) → List (List ℕ) → Field (Unit {0})
 each_known known [] = Ok tt
 each_known known (key ∷ others) = if is_among key known then each_known known others else Err key
 
--- no other keys stand in the table; keys stand in byte order, so the first of the others is the least
+-- no other keys stand in the table; as keys stand in byte order, the first of the others is least
 abbrev pub known_alone : List (List ℕ) → Members → Field (Unit {0})
 known_alone known table = each_known known (keys table)

@@ -1,5 +1,5 @@
-// What texts and fields give, worked out by hand from the rules of graph files: the kinds, paths and limits of the pipes,
-// or the refusal with its numbers.
+// What texts and fields give, worked out by hand from the rules of graph files: the kinds, paths and limits of the
+// pipes, or the refusal with its numbers.
 
 /// What is looked at before the pipes.
 pub static TOPS: [(&str, &str); 37] = [
