@@ -20,4 +20,3 @@ pub use number::{read_u16, read_u32, read_u64};
 pub use refusal::{Failed, NoMemory, Refusal};
 pub use text::Text;
 pub use word_list::WordList;
-

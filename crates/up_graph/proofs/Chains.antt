@@ -1,13 +1,14 @@
 -- The pipes that are read are a chain.
-use Rattle.std.proofs.Common.{◌≡◌, ℕ, zero, suc, ◌+◌, ◌<◌, ◌≤◌, Bool, true, false, List, [], ◌∷◌, length, Option, Some, None, Result, Ok, Err, refl, ap, arith}
-use Rattle.std.specs.Prelude.{slice_get, IfOk, codes, if◌then◌else◌}
+use Rattle.std.proofs.Common.{inl, inr, ◌≡◌, ℕ, zero, suc, ◌+◌, ◌<◌, ◌≤◌, Bool, true, false, List, [], ◌∷◌, length, Option, Some, None, Result, Ok, Err, refl, ap, arith}
+use Rattle.std.specs.Prelude.{pos, negsuc, slice_get, IfOk, codes, if◌then◌else◌}
+use Rattle.std.proofs.lemmas.Bool.{cases_Bool}
 use Rattle.std.proofs.lemmas.Bool.Decides.{nat_tests}
-use Rattle.toml.specs.Data.{Data, table, Items, no_items, item, Members}
+use Rattle.toml.specs.Data.{Data, integer, table, Items, no_items, item, Members, get_member}
 use Rattle.up_graph.specs.Answers.{Checked, ◌>>=◌}
-use Rattle.up_graph.specs.Drafts.{draft_with, draft_of_kind, draft_of_word, place_before, pipe_from}
-use Rattle.up_graph.specs.Field.{Field, field_map, both, text_at}
-use Rattle.up_graph.specs.Kinds.{kind_name_of, kind_of}
-use Rattle.up_graph.specs.Links.{is_placed, linked}
+use Rattle.up_graph.specs.Draft.{draft_with, draft_of_kind, draft_of_word, place_before, pipe_from}
+use Rattle.up_graph.specs.Field.{Field, field_map, both, is_within, number_at, number_in, path_at, text_at}
+use Rattle.up_graph.specs.KindFields.{kind_name_of, kind_of}
+use Rattle.up_graph.specs.Chain.{is_placed, linked}
 use Rattle.up_graph.specs.Pipes.{draft_in, pipe_of, is_empty, pipes_from}
 use Rattle.up_graph.specs.Top.{items_len, numbered}
 use Rattle.up_graph.specs.declared.chain.Stand.{Stand}
@@ -47,9 +48,41 @@ mapped : {A B : Type 0} (f : A → B) (found : Field A) (P : B → Type 0) → I
 mapped f (Ok value) P holds = holds
 mapped f (Err key) P holds = tt
 
-source_named : (found : Field (Unit {0} × List ℕ)) → IfOk (field_map (λ pair. Source pair.1 (source_forms.Raw DEFAULT_BLOCK) MAX_LIMIT) found) IsRawSource
-source_named (Ok pair) = (omega arith, omega arith)
-source_named (Err key) = tt
+weaker : {A E : Type 0} (found : Result A E) (P Q : A → Type 0) → ((value : A) → P value → Q value) → IfOk found P → IfOk found Q
+weaker (Ok value) P Q so holds = so value holds
+weaker (Err refused) P Q so holds = tt
+
+-- what holds of the first of two, and of the second where the first is there
+both_first : {A B : Type 0} (first : Field A) (second : Field B) (P : A → Type 0) → IfOk first P → IfOk (both first second) (λ pair. P pair.0)
+both_first (Ok a) (Ok b) P holds = holds
+both_first (Ok a) (Err key) P holds = tt
+both_first (Err key) (Ok b) P holds = tt
+both_first (Err key) (Err other) P holds = tt
+
+both_second : {A B : Type 0} (first : Field A) (second : Field B) (P : B → Type 0) → ((a : A) → first ≡ Ok a → IfOk second P)
+    → IfOk (both first second) (λ pair. P pair.1)
+both_second (Ok a) (Ok b) P so = so a refl
+both_second (Ok a) (Err key) P so = tt
+both_second (Err key) (Ok b) P so = tt
+both_second (Err key) (Err other) P so = tt
+
+number_fits : (key : List ℕ) (low high default : ℕ) (found : Option Data) → default ≤ high
+    → IfOk (number_in key low high (Some default) found) (λ number. number ≤ high)
+number_fits key low high default None fits = fits
+number_fits key low high default (Some (integer (pos number))) fits =
+    elim (cases_Bool (is_within low high number)) [
+      | inl within ↦ rw within (grind (arith, nat_tests, within))
+      | inr beyond ↦ rw beyond tt
+    ]
+number_fits key low high default (Some (integer (negsuc number))) fits = tt
+number_fits key low high default (Some value) fits = tt
+
+source_named : {A B : Type 0} (known : Field A) (path : Field B) (limit : Field ℕ) (kind : B → ℕ → Kind)
+    → ((path : B) (limit : ℕ) → limit ≤ MAX_LIMIT → IsRawSource (kind path limit)) → IfOk limit (λ limit. limit ≤ MAX_LIMIT)
+    → IfOk (field_map (λ found. kind found.1.0 found.1.1) (both known (both path limit))) IsRawSource
+source_named known path limit kind so fits =
+    mapped _ (both known (both path limit)) IsRawSource (weaker (both known (both path limit)) (λ found. found.1.1 ≤ MAX_LIMIT) _ (λ found. so found.1.0 found.1.1)
+    (both_second known (both path limit) (λ own. own.1 ≤ MAX_LIMIT) (λ _ _. both_second path limit (λ limit. limit ≤ MAX_LIMIT) (λ _ _. fits))))
 
 sink_named : {A B : Type 0} (found : Field (A × (B × List ℕ))) → IfOk (field_map (λ pair. Sink pair.1.1 sink_forms.Raw) found) IsRawSink
 sink_named (Ok pair) = tt
@@ -60,7 +93,10 @@ idem_named (Ok pair) = refl
 idem_named (Err key) = tt
 
 kind_named : (name : KindName) (fields : Members) → IfOk (kind_of name fields) (IsNamed name)
-kind_named names.Source fields = source_named _
+kind_named names.Source fields =
+    source_named _ (path_at (codes "path") fields) (number_at (codes "limit") 0 MAX_LIMIT (Some MAX_LIMIT) fields)
+    (λ path limit. Source path (source_forms.Raw DEFAULT_BLOCK) limit) (λ path limit fits. (omega arith, fits))
+    (number_fits (codes "limit") 0 MAX_LIMIT MAX_LIMIT (get_member (codes "limit") fields) (omega arith))
 kind_named names.Sink fields = sink_named _
 kind_named names.Idem fields = idem_named _
 
@@ -96,30 +132,12 @@ named_placed names.Idem place count before false kind end going_on is named =
       sink = λ at_end. absurd (omega (arith, at_end, more));
     }
 
--- what holds of the first of two, and of the second where the first is there
-both_first : {A B : Type 0} (first : Field A) (second : Field B) (P : A → Type 0) → IfOk first P → IfOk (both first second) (λ pair. P pair.0)
-both_first (Ok a) (Ok b) P holds = holds
-both_first (Ok a) (Err key) P holds = tt
-both_first (Err key) (Ok b) P holds = tt
-both_first (Err key) (Err other) P holds = tt
-
-both_second : {A B : Type 0} (first : Field A) (second : Field B) (P : B → Type 0) → ((a : A) → first ≡ Ok a → IfOk second P)
-    → IfOk (both first second) (λ pair. P pair.1)
-both_second (Ok a) (Ok b) P so = so a refl
-both_second (Ok a) (Err key) P so = tt
-both_second (Err key) (Ok b) P so = tt
-both_second (Err key) (Err other) P so = tt
-
 is_placed-from : (passes : Bool) (takes : Field (Unit {0})) (u : Unit {0})
     → field_map {A = Unit {0} × Unit {0}} {B = Unit {0}} (λ _. tt) (both {A = Unit {0}} {B = Unit {0}} (if passes then Ok tt else Err (codes "kind")) takes) ≡ Ok u
     → passes ≡ true
 is_placed-from true takes u is = refl
 is_placed-from false (Ok _) u is = absurd cc
 is_placed-from false (Err key) u is = absurd cc
-
-weaker : {A E : Type 0} (found : Result A E) (P Q : A → Type 0) → ((value : A) → P value → Q value) → IfOk found P → IfOk found Q
-weaker (Ok value) P Q so holds = so value holds
-weaker (Err refused) P Q so holds = tt
 
 numbered_too : {A : Type 0} (number : ℕ) (found : Field A) (P : A → Type 0) → IfOk found P → IfOk (numbered number found) P
 numbered_too number (Ok value) P holds = holds

@@ -3,6 +3,7 @@ use Rattle.std.specs.Prelude.{◌≡◌, Result, Ok, Err}
 use Rattle.up_graph.specs.declared.graph_refused.GraphRefused.{GraphRefused}
 use Rattle.up_graph.specs.declared.graph_refused.GraphRefused.TheVariants.{NoMemory}
 
+-- what a text gives, or its refusal
 abbrev pub Checked : Type 0 → Type 0
 Checked A = Result A GraphRefused
 

@@ -1,11 +1,11 @@
 -- The fields of a table: each has a value, or is wrong and told by its name.
-use Rattle.std.specs.Prelude.{ℕ, ◌==◌, Bool, ◌&&◌, not, List, [], ◌∷◌, length, nat_le, Option, Some, Result, Ok, Err, if◌then◌else◌}
+use Rattle.std.specs.Prelude.{ℕ, pos, ◌==◌, Bool, ◌&&◌, not, List, [], ◌∷◌, length, nat_le, Option, Some, None, Result, Ok, Err, if◌then◌else◌}
 use Rattle.std.specs.List.{list_any}
 use Rattle.std.specs.Str.{bytes_eq}
 use Rattle.std.specs.Borrow.{Bor}
 use Rattle.std.specs.Ordering.{nat_cmp, match_ordering}
 use Rattle.std.specs.Cmp.Lexicographic.{slice_cmp}
-use Rattle.toml.specs.Data.{Data, string, Members, no_members, member, get_member}
+use Rattle.toml.specs.Data.{Data, string, integer, Members, no_members, member, get_member}
 use Rattle.up_base.specs.Name.{is_name}
 use Rattle.up_model.specs.declared.limits.TheConstants.{MAX_PATH}
 
@@ -18,6 +18,7 @@ abbrev pub seen : {A B : Type 0} → (A → B) → Result A (Bor (List ℕ)) →
 seen view (Ok value) = Ok (view value)
 seen view (Err key) = Err key.now
 
+-- a function of what a field gives
 abbrev pub field_map : {A B : Type 0} → (A → B) → Field A → Field B
 field_map f (Ok value) = Ok (f value)
 field_map f (Err key) = Err key
@@ -33,33 +34,60 @@ both (Ok a) (Err key) = Err key
 both (Err key) (Ok b) = Err key
 both (Err first) (Err second) = Err (lesser first second)
 
+-- the key has a string that is a pipe name
 abbrev pub name_in : List ℕ → Option Data → Field (List ℕ)
 name_in key (Some (string text)) = if is_name text then Ok text else Err key
 name_in key _ = Err key
 
--- a pipe name
+-- the pipe name at a key
 abbrev pub name_at : List ℕ → Members → Field (List ℕ)
 name_at key table = name_in key (get_member key table)
 
+-- the key has a string
 abbrev pub text_in : List ℕ → Option Data → Field (List ℕ)
 text_in key (Some (string text)) = Ok text
 text_in key _ = Err key
 
--- any string
+-- the string at a key
 abbrev pub text_at : List ℕ → Members → Field (List ℕ)
 text_at key table = text_in key (get_member key table)
 
+-- a text of 1 to 4,096 bytes, none of them zero
 abbrev pub is_path : List ℕ → Bool
-is_path path = nat_le 1 (length path) && (nat_le (length path) MAX_PATH && not (list_any (λ byte. byte == 0) path))
+is_path path =
+    nat_le 1 (length path)
+    && (nat_le (length path) MAX_PATH && not (list_any (λ byte. byte == 0) path))
 
+-- the string is a path
 abbrev pub path_in : List ℕ → Field (List ℕ) → Field (List ℕ)
 path_in key (Ok path) = if is_path path then Ok path else Err key
 path_in key (Err _) = Err key
 
--- a path: a string of 1 to 4,096 bytes, none of them zero
+-- the path at a key
 abbrev pub path_at : List ℕ → Members → Field (List ℕ)
 path_at key table = path_in key (text_at key table)
 
+-- a number from low to high, both included
+abbrev pub is_within : ℕ → ℕ → ℕ → Bool
+is_within low high number = nat_le low number && nat_le number high
+
+-- a key that has nothing gives what stands for it, or is wrong
+abbrev pub or_wrong : {A : Type 0} → List ℕ → Option A → Field A
+or_wrong key (Some value) = Ok value
+or_wrong key None = Err key
+
+-- the key has an integer from low to high, or nothing
+abbrev pub number_in : List ℕ → ℕ → ℕ → Option ℕ → Option Data → Field ℕ
+number_in key low high missing None = or_wrong key missing
+number_in key low high missing (Some (integer (pos number))) =
+    if is_within low high number then Ok number else Err key
+number_in key low high missing _ = Err key
+
+-- the integer at a key, from low to high, or what stands for a missing one
+abbrev pub number_at : List ℕ → ℕ → ℕ → Option ℕ → Members → Field ℕ
+number_at key low high missing table = number_in key low high missing (get_member key table)
+
+-- the key is one of the names
 abbrev pub is_among : List ℕ → List (List ℕ) → Bool
 is_among key names = list_any (bytes_eq key) names
 
@@ -73,6 +101,6 @@ abbrev pub each_known : List (List ℕ) → List (List ℕ) → Field (Unit {0})
 each_known known [] = Ok tt
 each_known known (key ∷ others) = if is_among key known then each_known known others else Err key
 
--- no other keys stand in the table; as keys stand in byte order, the first of the others is the least
+-- no other keys stand in the table; as keys stand in byte order, the first of the others is least
 abbrev pub known_alone : List (List ℕ) → Members → Field (Unit {0})
 known_alone known table = each_known known (keys table)

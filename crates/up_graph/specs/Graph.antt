@@ -16,5 +16,6 @@ graph_in top = do
   pipes ← pipes_from 0 None tables
   Ok (record { pipes = pipes })
 
+-- the rules in their order, over a text
 unfoldable pub graph_of : List ℕ → Checked Graph
 graph_of text = document_of text >>= graph_in

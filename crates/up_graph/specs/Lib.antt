@@ -1,9 +1,9 @@
 pub mod Answers
+pub mod Chain
 pub mod Document
-pub mod Drafts
+pub mod Draft
 pub mod Field
 pub mod Graph
-pub mod Kinds
-pub mod Links
+pub mod KindFields
 pub mod Pipes
 pub mod Top

@@ -2,7 +2,7 @@
 use Rattle.std.specs.Prelude.{ℕ, ◌+◌, suc, Bool, true, false, List, [], ◌∷◌, codes, Option, Some, Ok, Err}
 use Rattle.toml.specs.Data.{Data, table, Items, no_items, item}
 use Rattle.up_graph.specs.Answers.{Checked, ◌>>=◌}
-use Rattle.up_graph.specs.Drafts.{Sketch, draft_of, pipe_from}
+use Rattle.up_graph.specs.Draft.{Sketch, draft_of, pipe_from}
 use Rattle.up_graph.specs.Field.{Field, field_map}
 use Rattle.up_graph.specs.Top.{numbered}
 use Rattle.up_graph.specs.declared.chain.Stand.{Stand}
@@ -15,8 +15,10 @@ draft_in stand _ = Err (codes "kind")
 
 -- the pipe that stands so, numbered from 1 in a refusal
 abbrev pub pipe_of : Stand → Data → Checked Pipe
-pipe_of stand value = numbered (stand.place + 1) (field_map (pipe_from stand.place) (draft_in stand value))
+pipe_of stand value =
+    numbered (stand.place + 1) (field_map (pipe_from stand.place) (draft_in stand value))
 
+-- there are none
 abbrev pub is_empty : Items → Bool
 is_empty no_items = true
 is_empty (item first others) = false

@@ -2,19 +2,21 @@
 use Rattle.std.specs.Prelude.{ℕ, ◌+◌, ℤ, pos, negsuc, Bool, true, false, [], ◌∷◌, codes, nat_lt, ◌==◌, Option, Some, None, Ok, Err, if◌then◌else◌}
 use Rattle.toml.specs.Data.{Data, integer, array, table, Items, no_items, item, Members, get_member}
 use Rattle.up_graph.specs.Answers.{Checked, ◌>>=◌}
-use Rattle.up_graph.specs.Field.{Field, both, known_alone}
+use Rattle.up_graph.specs.Field.{Field, field_map, both, known_alone}
 use Rattle.up_graph.specs.declared.graph_refused.GraphRefused.TheVariants.{BadVersion, NoPipes, TooManyPipes, BadField}
 use Rattle.up_model.specs.declared.limits.TheConstants.{MAX_PIPES}
 
+-- the integer is 1
 abbrev pub is_one : ℤ → Bool
 is_one (pos n) = n == 1
 is_one (negsuc n) = false
 
+-- what stands at `version` is the integer 1
 abbrev pub version_is : Option Data → Checked (Unit {0})
 version_is (Some (integer got)) = if is_one got then Ok tt else Err (BadVersion (Some got))
 version_is _ = Err (BadVersion None)
 
--- `version` is the integer 1
+-- the version of a file is 1
 abbrev pub version_of : Members → Checked (Unit {0})
 version_of top = version_is (get_member (codes "version") top)
 
@@ -30,6 +32,7 @@ counted pipes =
     else if nat_lt MAX_PIPES (items_len pipes) then Err (TooManyPipes (items_len pipes))
     else Ok tt
 
+-- what stands at `pipe`: nothing, an array, or something else
 abbrev pub array_in : Option Data → Checked (Option Items)
 array_in None = Err NoPipes
 array_in (Some (array pipes)) = counted pipes >>= (λ _. Ok (Some pipes))
@@ -39,6 +42,7 @@ array_in (Some _) = Ok None
 abbrev pub array_of : Members → Checked (Option Items)
 array_of top = array_in (get_member (codes "pipe") top)
 
+-- each item is a table
 abbrev pub are_tables : Items → Bool
 are_tables no_items = true
 are_tables (item (table _) others) = are_tables others
@@ -54,11 +58,9 @@ abbrev pub numbered : {A : Type 0} → ℕ → Field A → Checked A
 numbered number (Ok value) = Ok value
 numbered number (Err key) = Err (BadField number key)
 
-abbrev pub second : {A B : Type 0} → Field (A × B) → Field B
-second (Ok found) = Ok found.1
-second (Err key) = Err key
-
 -- the tables of the pipes, where no other key stands at the top
 abbrev pub tables_of : Option Items → Members → Checked Items
 tables_of found top =
-    numbered 0 (second (both (known_alone (codes "pipe" ∷ codes "version" ∷ []) top) (tables_in found)))
+    numbered 0 (field_map (λ found. found.1)
+    (both (known_alone (codes "pipe" ∷ codes "version" ∷ []) top)
+    (tables_in found)))

@@ -2,7 +2,7 @@
 ghost use Rattle.std.specs.Prelude.{◌≡◌};
 ghost use Rattle.toml.specs.View.{table_view};
 ghost use Rattle.up_graph.specs.Field.{seen};
-ghost use Rattle.up_graph.specs.Links.{follows, is_placed, linked, placed};
+ghost use Rattle.up_graph.specs.Chain.{follows, is_placed, linked, placed};
 
 use crate::field::{both, value_at};
 use crate::kind_fields::KindName;

@@ -1,9 +1,9 @@
 // A pipe as its table gives it.
 ghost use Rattle.std.specs.Prelude.{◌≡◌, IfOk};
 ghost use Rattle.toml.specs.View.{table_view};
-ghost use Rattle.up_graph.specs.Drafts.{draft_of, draft_view, draft_with, pipe_from};
+ghost use Rattle.up_graph.specs.Draft.{draft_of, draft_view, draft_with, pipe_from};
 ghost use Rattle.up_graph.specs.Field.{seen};
-ghost use Rattle.up_graph.specs.Kinds.{kind_view};
+ghost use Rattle.up_graph.specs.KindFields.{kind_view};
 
 use crate::chain::{Stand, linked};
 use crate::field::{both, name_at, text_at};

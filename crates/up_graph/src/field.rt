@@ -4,7 +4,7 @@ ghost use Rattle.std.specs.List.{list_any};
 ghost use Rattle.std.specs.Str.{bytes_eq};
 ghost use Rattle.toml.specs.Data.{get_member};
 ghost use Rattle.toml.specs.View.{table_view, view};
-ghost use Rattle.up_graph.specs.Field.{both, is_path, known_alone, lesser, name_at, path_at, seen, text_at};
+ghost use Rattle.up_graph.specs.Field.{both, is_path, known_alone, lesser, name_at, number_at, path_at, seen, text_at};
 
 use toml::{Table, Value};
 use up_base::PipeName;
@@ -12,7 +12,8 @@ use up_model::MAX_PATH;
 
 /// The value at a key.
 pub fn value_at<'a>(table: &'a Table, key: &str) -> Option<&'a Value>
-    ensures { option_map (λ value. view value.now) result ≡ get_member key.now (table_view table.now) }
+    ensures { option_map (λ value. view value.now) result
+        ≡ get_member key.now (table_view table.now) }
 {
     table.get(key)
 }
@@ -29,7 +30,8 @@ pub fn both<'a, A: Drop, B: Drop>(
     a: Result<A, &'a str>,
     b: Result<B, &'a str>,
 ) -> Result<(A, B), &'a str>
-    ensures { seen (λ pair. pair) result ≡ both (seen (λ value. value) a.entry) (seen (λ value. value) b.entry) }
+    ensures { seen (λ pair. pair) result
+        ≡ both (seen (λ value. value) a.entry) (seen (λ value. value) b.entry) }
 {
     match (a, b) {
         (Ok(a), Ok(b)) => Ok((a, b)),
@@ -87,6 +89,31 @@ fn has_zero(bytes: &[u8]) -> bool
     ensures { result ≡ list_any (λ byte. byte == 0) bytes.now }
 {
     bytes.iter().any(|byte| *byte == 0)
+}
+
+/// The integer at a key, from `low` to `high`, or what stands for a missing one.
+pub fn number_at<'a>(
+    table: &Table,
+    key: &'a str,
+    low: u64,
+    high: u64,
+    missing: Option<u64>,
+) -> Result<u64, &'a str>
+    ensures { seen (λ number. number) result
+        ≡ number_at key.entry.now low high missing (table_view table.now) }
+{
+    match value_at(table, key) {
+        None => missing.ok_or(key),
+        Some(Value::Integer(number)) if *number >= 0 => {
+            let number = *number as u64;
+            if low <= number && number <= high {
+                Ok(number)
+            } else {
+                Err(key)
+            }
+        }
+        Some(_) => Err(key),
+    }
 }
 
 fn is_among(key: &str, names: &[&'static str]) -> bool

@@ -2,8 +2,8 @@ use thiserror::Error;
 use up_base::Text;
 use up_model::{MAX_GRAPH, MAX_PIPES};
 
-/// The first rule of a graph file that a text breaks. The rules are looked at in the order of the variants, and those of
-/// the pipes' fields pipe by pipe.
+/// The first rule of a graph file that a text breaks. The rules are looked at in the order of the variants, and the
+/// fields pipe by pipe.
 #[derive(Debug, Drop, Error)]
 pub enum GraphRefused {
     #[error("{len} bytes, where a graph file has at most {most}", most = MAX_GRAPH)]

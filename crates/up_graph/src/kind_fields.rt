@@ -2,9 +2,9 @@
 ghost use Rattle.std.specs.Prelude.{◌≡◌};
 ghost use Rattle.toml.specs.View.{table_view};
 ghost use Rattle.up_graph.specs.Field.{seen};
-ghost use Rattle.up_graph.specs.Kinds.{idem_of, kind_name_of, kind_of, kind_view, sink_of, source_of};
+ghost use Rattle.up_graph.specs.KindFields.{idem_of, kind_name_of, kind_of, kind_view, sink_of, source_of};
 
-use crate::field::{both, known_alone, path_at, text_at};
+use crate::field::{both, known_alone, number_at, path_at, text_at};
 use toml::Table;
 use up_model::MAX_LIMIT;
 
@@ -36,16 +36,17 @@ pub fn kind_name_of(word: &str) -> Option<KindName>
     }
 }
 
-static SOURCE_FIELDS: [&str; 3] = ["kind", "name", "path"];
+static SOURCE_FIELDS: [&str; 4] = ["kind", "limit", "name", "path"];
 
 fn source_at<'a>(table: &'a Table) -> Result<KindFields<'a>, &'a str>
     ensures { seen kind_view result ≡ source_of (table_view table.entry.now) }
 {
-    match both(known_alone(table, &SOURCE_FIELDS), path_at(table, "path")) {
-        Ok((_, path)) => Ok(KindFields::Source {
-            path,
-            limit: MAX_LIMIT,
-        }),
+    let own = both(
+        path_at(table, "path"),
+        number_at(table, "limit", 0, MAX_LIMIT, Some(MAX_LIMIT)),
+    );
+    match both(known_alone(table, &SOURCE_FIELDS), own) {
+        Ok((_, (path, limit))) => Ok(KindFields::Source { path, limit }),
         Err(field) => Err(field),
     }
 }

@@ -1,17 +1,21 @@
+mod tables;
+
+use self::tables::{FIRST_PIPES, LAST_PIPES, MIDDLE_PIPES, ONLY_PIPES, SPELLINGS, TOPS};
 use super::*;
 use std::string::String;
 use std::test::*;
 use up_base::Text;
 use up_model::{CatchSet, Kind, Pipe, SinkForm, SourceForm};
 
-/// What a text answers: the names, kinds and paths of its pipes, or the refusal with its numbers.
+/// What a text answers: the kinds, paths and limits of its pipes, or the refusal with its numbers.
 fn answer(rt: &HostRuntime, text: &[u8]) -> Result<String, Fail> {
     let alloc = rt.alloc();
     Ok(match read_graph(alloc, text) {
         Ok(graph) => {
             let mut words = String::new(alloc);
             for place in 0..graph.pipes.len() {
-                words.push_str(kind_word(graph.pipes.at(place)))?;
+                let word = kind_words(rt, &graph.pipes.at(place).kind)?;
+                words.push_str(word.as_str())?;
             }
             words
         }
@@ -28,12 +32,13 @@ fn answer(rt: &HostRuntime, text: &[u8]) -> Result<String, Fail> {
     })
 }
 
-fn kind_word(pipe: &Pipe) -> &'static str {
-    match pipe.kind {
-        Kind::Source { .. } => "source ",
-        Kind::Sink { .. } => "sink ",
-        Kind::Idem => "idem ",
-    }
+fn kind_words(rt: &HostRuntime, kind: &Kind) -> Result<String, Fail> {
+    let alloc = rt.alloc();
+    Ok(match kind {
+        Kind::Source { path, limit, .. } => format!(in alloc; "source {} {limit} ", path.as_str())?,
+        Kind::Sink { path, .. } => format!(in alloc; "sink {} ", path.as_str())?,
+        Kind::Idem => format!(in alloc; "idem ")?,
+    })
 }
 
 const CHAIN: &str = r#"
@@ -97,24 +102,160 @@ fn a_chain_of_three_pipes_gives_its_graph(rt: HostRuntime) {
     }
 }
 
-#[test]
-fn each_refusal_is_answered_where_its_rule_is_broken(rt: HostRuntime) -> Result<(), Fail> {
-    let cases = [
-        ("version = ", "NotToml"),
-        ("version = 2", "BadVersion 2"),
-        ("version = \"1\"", "BadVersion"),
-        ("version = 1", "NoPipes"),
-        ("version = 1\npipe = 5", "0: pipe"),
-        ("version = 1\n[[pipe]]\nkind = \"pump\"", "1: kind"),
-        (CHAIN, "source idem sink "),
-    ];
-    for (text, wanted) in cases {
-        let told = answer(&rt, text.as_bytes())?;
-        assert_eq!(rt; told.as_str(), wanted, "at {text}");
+/// A line for each text that doesn't give what stands beside it, where these pipes follow it.
+fn wrong_texts(
+    rt: &HostRuntime,
+    table: &[(&'static str, &'static str)],
+    after: &str,
+) -> Result<String, Fail> {
+    let mut wrong = String::new(rt.alloc());
+    for (start, wanted) in table {
+        let text = format!(in rt.alloc(); "{start}{after}")?;
+        let told = answer(rt, text.as_bytes())?;
+        if told.as_str() != *wanted {
+            let line = format!(in rt.alloc(); "{text}\ngives {told}\n")?;
+            wrong.push_str(line.as_str())?;
+        }
     }
-    let long = vec![in rt.alloc(); b' '; 1_048_577]?;
-    let told = answer(&rt, &long)?;
+    Ok(wrong)
+}
+
+/// A line for each list of fields that doesn't give what stands beside it, where it is the pipe between these others.
+fn wrong_pipes(
+    rt: &HostRuntime,
+    before: &str,
+    table: &[(&'static str, &'static str)],
+    after: &str,
+) -> Result<String, Fail> {
+    let mut wrong = String::new(rt.alloc());
+    for (fields, wanted) in table {
+        let text = format!(in rt.alloc(); "version = 1\npipe = [{before}{{{fields}}}{after}]")?;
+        let told = answer(rt, text.as_bytes())?;
+        if told.as_str() != *wanted {
+            let line = format!(in rt.alloc(); "{fields} gives {told}\n")?;
+            wrong.push_str(line.as_str())?;
+        }
+    }
+    Ok(wrong)
+}
+
+#[test]
+fn the_top_of_a_file_is_looked_at_in_order(rt: HostRuntime) -> Result<(), Fail> {
+    let wrong = wrong_texts(&rt, &TOPS, "")?;
+    assert_eq!(rt; wrong.as_str(), "");
+    Ok(())
+}
+
+#[test]
+fn odd_spellings_of_toml_mean_the_same(rt: HostRuntime) -> Result<(), Fail> {
+    let sink = "\n[[pipe]]\nname = 'b'\nkind = 'sink'\ninput = 'a'\npath = 'o'\n";
+    let wrong = wrong_texts(&rt, &SPELLINGS, sink)?;
+    assert_eq!(rt; wrong.as_str(), "");
+    Ok(())
+}
+
+#[test]
+fn the_least_wrong_field_of_the_first_wrong_pipe_is_told(rt: HostRuntime) -> Result<(), Fail> {
+    let source = "{name = 'a', kind = 'source', path = 'i'}, ";
+    let sink = ", {name = 'b', kind = 'sink', input = 'a', path = 'o'}";
+    let end = ", {name = 'c', kind = 'sink', input = 'b', path = 'o'}";
+    let wrong = wrong_pipes(&rt, "", &FIRST_PIPES, sink)?;
+    assert_eq!(rt; wrong.as_str(), "");
+    let wrong = wrong_pipes(&rt, source, &MIDDLE_PIPES, end)?;
+    assert_eq!(rt; wrong.as_str(), "");
+    let wrong = wrong_pipes(&rt, source, &LAST_PIPES, "")?;
+    assert_eq!(rt; wrong.as_str(), "");
+    let wrong = wrong_pipes(&rt, "", &ONLY_PIPES, "")?;
+    assert_eq!(rt; wrong.as_str(), "");
+    Ok(())
+}
+
+/// A text of copies of a piece.
+fn repeated(rt: &HostRuntime, piece: &str, count: u32) -> Result<String, Fail> {
+    let mut text = String::new(rt.alloc());
+    for _ in 0..count {
+        text.push_str(piece)?;
+    }
+    Ok(text)
+}
+
+/// A file of a source, idle pipes of one name, and a sink: so many pipes.
+fn long_chain(rt: &HostRuntime, count: u32) -> Result<String, Fail> {
+    let mut text = String::new(rt.alloc());
+    text.push_str("version = 1\npipe = [{name = 'a', kind = 'source', path = 'i'},\n")?;
+    for _ in 2..count {
+        text.push_str("{name = 'a', kind = 'idem', input = 'a'},\n")?;
+    }
+    text.push_str("{name = 'a', kind = 'sink', input = 'a', path = 'o'}]")?;
+    Ok(text)
+}
+
+#[test]
+fn a_file_has_at_most_256_pipes(rt: HostRuntime) -> Result<(), Fail> {
+    let alloc = rt.alloc();
+    let most = long_chain(&rt, 256)?;
+    let graph = read_graph(alloc, most.as_bytes()).expect(&rt, "256 pipes");
+    assert_eq!(rt; graph.pipes.len(), 256);
+    let many = long_chain(&rt, 257)?;
+    let told = answer(&rt, many.as_bytes())?;
+    assert_eq!(rt; told.as_str(), "TooManyPipes 257");
+    for (count, wanted) in [(256, "0: a"), (257, "TooManyPipes 257")] {
+        let numbers = repeated(&rt, "1, ", count)?;
+        let text = format!(in alloc; "version = 1\na = 1\npipe = [{numbers}]")?;
+        let told = answer(&rt, text.as_bytes())?;
+        assert_eq!(rt; told.as_str(), wanted);
+    }
+    Ok(())
+}
+
+#[test]
+fn a_file_has_at_most_1048576_bytes(rt: HostRuntime) -> Result<(), Fail> {
+    let alloc = rt.alloc();
+    let mut text = vec![in alloc; b' '; 1_048_576]?;
+    text[..CHAIN.len()].copy_from_slice(CHAIN.as_bytes());
+    let told = answer(&rt, &text)?;
+    assert_eq!(rt;
+        told.as_str(),
+        "source in.ts 1099511627776 idem sink out.ts "
+    );
+    text.push(b' ')?;
+    let told = answer(&rt, &text)?;
     assert_eq!(rt; told.as_str(), "TooBig 1048577");
+    Ok(())
+}
+
+#[test]
+fn names_and_paths_have_a_greatest_length(rt: HostRuntime) -> Result<(), Fail> {
+    let alloc = rt.alloc();
+    let cases = [(64, 4096, ""), (65, 4096, "1: name"), (64, 4097, "1: path")];
+    for (name_len, path_len, refused) in cases {
+        let name = repeated(&rt, "n", name_len)?;
+        let path = repeated(&rt, "p", path_len)?;
+        let text = format!(in alloc;
+            "version = 1\npipe = [{{name = '{name}', kind = 'source', path = '{path}'}}, \
+            {{name = 'b', kind = 'sink', input = '{name}', path = '{path}'}}]"
+        )?;
+        let wanted = if refused.is_empty() {
+            format!(in alloc; "source {path} 1099511627776 sink {path} ")?
+        } else {
+            format!(in alloc; "{refused}")?
+        };
+        let told = answer(&rt, text.as_bytes())?;
+        assert_eq!(rt; told.as_str(), wanted.as_str());
+    }
+    Ok(())
+}
+
+#[test]
+fn bytes_that_are_not_utf8_are_not_toml(rt: HostRuntime) -> Result<(), Fail> {
+    for text in [
+        b"\xff".as_slice(),
+        b"version = 2 # \xc0\x80",
+        b"version = 2 # \xe4",
+    ] {
+        let told = answer(&rt, text)?;
+        assert_eq!(rt; told.as_str(), "NotToml");
+    }
     Ok(())
 }
 

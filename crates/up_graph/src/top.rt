@@ -105,7 +105,8 @@ pub fn tables_at<'a>(
     found: Option<&'a Array>,
 ) -> Result<&'a Array, GraphRefused>
     ensures answers { Answers (λ pipes. array_view pipes.now) result
-        (tables_of (option_map (λ pipes. array_view pipes.now) found.entry) (table_view table.entry.now)) }
+        (tables_of (option_map (λ pipes. array_view pipes.now) found.entry)
+        (table_view table.entry.now)) }
     ensures same { IfOk result (λ pipes. found.entry ≡ Some pipes) }
 {
     match both(known_alone(table, &TOP_FIELDS), tables_in(found)) {

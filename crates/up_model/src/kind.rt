@@ -11,7 +11,10 @@ pub enum Kind {
         limit: u64,
     },
     /// Writes what it takes to a path of 1 to 4,096 bytes.
-    Sink { path: Text, form: SinkForm },
+    Sink {
+        path: Text,
+        form: SinkForm,
+    },
     /// Passes on what it takes.
     Idem,
 }

@@ -9,13 +9,11 @@ ghost use Rattle.up_model.specs.declared.pipe.Pipe.{Pipe as ThePipe};
 /// The bytes of a raw source are those of its blocks, one after the other.
 pub fn blocks_rejoin()
     ensures { (size : ℕ) (bytes : List ℕ) → 0 < size → joined (blocks size bytes) ≡ bytes }
-{
-}
+{}
 
 /// In a chain the sink's bytes are those of the source's flow.
 pub fn chain_copies()
     ensures { (pipes : List ThePipe) (given : ℕ → Flow) (place : ℕ) (sink : ThePipe) → IsChain pipes
         → place + 1 ≡ length pipes → slice_get pipes place ≡ Some sink
         → sink_bytes pipes given sink ≡ joined (given 0) }
-{
-}
+{}

@@ -2,7 +2,7 @@
 use Rattle.std.specs.Prelude.{ℕ, List, [], ◌∷◌, codes, Option, Some, None, if◌then◌else◌}
 use Rattle.std.specs.Str.{bytes_eq}
 use Rattle.toml.specs.Data.{Members}
-use Rattle.up_graph.specs.Field.{Field, field_map, both, known_alone, text_at, path_at}
+use Rattle.up_graph.specs.Field.{Field, field_map, both, known_alone, text_at, path_at, number_at}
 use Rattle.up_graph.specs.declared.kind_fields.KindFields.{KindFields}
 use Rattle.up_graph.specs.declared.kind_fields.KindFields.TheVariants as fields
 use Rattle.up_graph.specs.declared.kind_fields.KindName.{KindName}
@@ -27,12 +27,15 @@ kind_view (fields.Source path limit) = Source path.now (source_forms.Raw DEFAULT
 kind_view (fields.Sink path) = Sink path.now sink_forms.Raw
 kind_view fields.Idem = Idem
 
+-- a raw source: its path, and the most bytes that it reads
 abbrev pub source_of : Members → Field Kind
 source_of table =
-    field_map (λ found. Source found.1 (source_forms.Raw DEFAULT_BLOCK) MAX_LIMIT)
-    (both (known_alone (codes "kind" ∷ codes "name" ∷ codes "path" ∷ []) table)
-    (path_at (codes "path") table))
+    field_map (λ found. Source found.1.0 (source_forms.Raw DEFAULT_BLOCK) found.1.1)
+    (both (known_alone (codes "kind" ∷ codes "limit" ∷ codes "name" ∷ codes "path" ∷ []) table)
+    (both (path_at (codes "path") table)
+    (number_at (codes "limit") 0 MAX_LIMIT (Some MAX_LIMIT) table)))
 
+-- a raw sink: its input, and its path
 abbrev pub sink_of : Members → Field Kind
 sink_of table =
     field_map (λ found. Sink found.1.1 sink_forms.Raw)
@@ -40,6 +43,7 @@ sink_of table =
     (both (text_at (codes "input") table)
     (path_at (codes "path") table)))
 
+-- a pipe that passes on what it takes: its input
 abbrev pub idem_of : Members → Field Kind
 idem_of table =
     field_map (λ found. Idem)

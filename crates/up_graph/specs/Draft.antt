@@ -2,8 +2,8 @@
 use Rattle.std.specs.Prelude.{ℕ, zero, suc, false, List, codes, Option, Some, None, Ok, Err}
 use Rattle.toml.specs.Data.{Members}
 use Rattle.up_graph.specs.Field.{Field, field_map, both, text_at, name_at}
-use Rattle.up_graph.specs.Kinds.{kind_name_of, kind_of, kind_view}
-use Rattle.up_graph.specs.Links.{linked}
+use Rattle.up_graph.specs.KindFields.{kind_name_of, kind_of, kind_view}
+use Rattle.up_graph.specs.Chain.{linked}
 use Rattle.up_graph.specs.declared.chain.Stand.{Stand}
 use Rattle.up_graph.specs.declared.draft.Draft.{Draft}
 use Rattle.up_graph.specs.declared.kind_fields.KindName.{KindName}
@@ -17,6 +17,7 @@ pub record Sketch : Type 0 where
   pub name : List ℕ
   pub kind : Kind
 
+-- the pipe that a draft of the code stands for
 abbrev pub draft_view : Draft → Sketch
 draft_view draft = record { name = draft.name; kind = kind_view draft.kind }
 
@@ -27,10 +28,12 @@ draft_with kind stand table =
     (both (both (linked kind stand table) (kind_of kind table))
     (name_at (codes "name") table))
 
+-- a word that names no kind is a wrong field `kind`
 abbrev pub draft_of_kind : Option KindName → Stand → Members → Field Sketch
 draft_of_kind (Some kind) stand table = draft_with kind stand table
 draft_of_kind None stand table = Err (codes "kind")
 
+-- and so is a `kind` that is no string
 abbrev pub draft_of_word : Field (List ℕ) → Stand → Members → Field Sketch
 draft_of_word (Ok word) stand table = draft_of_kind (kind_name_of word) stand table
 draft_of_word (Err key) stand table = Err key
@@ -44,6 +47,7 @@ abbrev pub place_before : ℕ → Option ℕ
 place_before zero = None
 place_before (suc place) = Some place
 
+-- no kind of event is caught
 abbrev pub caught_nothing : CatchSet
 caught_nothing = record { drop = false; cut = false; sync = false; lost = false }
 

@@ -13,11 +13,14 @@ is_placed Source stand = stand.place == 0 && not stand.is_last
 is_placed Sink stand = not (stand.place == 0) && stand.is_last
 is_placed Idem stand = not (stand.place == 0) && not stand.is_last
 
+-- a kind in a wrong place is a wrong field `kind`
 abbrev pub placed : KindName → Stand → Field (Unit {0})
 placed kind stand = if is_placed kind stand then Ok tt else Err (codes "kind")
 
+-- the value is a string, and the name of the pipe before
 abbrev pub is_input : Option (List ℕ) → Option Data → Field (Unit {0})
-is_input (Some name) (Some (string text)) = if bytes_eq name text then Ok tt else Err (codes "input")
+is_input (Some name) (Some (string text)) =
+    if bytes_eq name text then Ok tt else Err (codes "input")
 is_input _ _ = Err (codes "input")
 
 -- the input is the name of the pipe before
