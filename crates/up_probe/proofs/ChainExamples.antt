@@ -1,5 +1,5 @@
 -- Worked examples of who catches an event, and of the sum that it is added to, computed.
-use Rattle.std.proofs.Common.{◌≡◌, ◌-◌, ◌^◌, List, [], ◌∷◌, true, false, refl}
+use Rattle.std.proofs.Common.{◌≡◌, ◌-◌, ◌^◌, [], ◌∷◌, true, false, refl}
 use Rattle.up_model.specs.declared.catch_set.CatchSet.{CatchSet}
 use Rattle.up_model.specs.declared.event_kind.EventKind.TheVariants.{Drop, Cut, Sync, Lost}
 use Rattle.up_probe.specs.Chain.{catching_depth}

@@ -33,7 +33,8 @@ impl ProbeChain {
     /// A chain of one probe for each set, that has caught nothing.
     pub fn new(alloc: Global, sets: &[CatchSet]) -> Result<ProbeChain, NoMemory>
         ensures sets { IfOk result (λ chain. chain.sets ≡ sets.now) }
-        ensures nothing_caught { IfOk result (λ chain. (depth : ℕ) → tally_at chain depth ≡ no_events) }
+        ensures nothing_caught { IfOk result (λ chain.
+            (depth : ℕ) → tally_at chain depth ≡ no_events) }
     {
         Ok(ProbeChain {
             sets: Vec::from_slice(alloc, sets)?,

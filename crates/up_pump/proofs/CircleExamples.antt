@@ -19,11 +19,13 @@ pub from_pump_0 : next_pump (record { pumps = idle ∷ due ∷ due ∷ []; last 
 from_pump_0 = refl
 
 -- pump 2 was given last, and pump 0 is blocked
-pub round_the_circle : next_pump (record { pumps = blocked ∷ due ∷ due ∷ []; last = Some 2 }) ≡ Some 1
+pub round_the_circle :
+    next_pump (record { pumps = blocked ∷ due ∷ due ∷ []; last = Some 2 }) ≡ Some 1
 round_the_circle = refl
 
 -- the pump given last is the only one that is due
-pub the_same_again : next_pump (record { pumps = idle ∷ due ∷ blocked ∷ []; last = Some 1 }) ≡ Some 1
+pub the_same_again :
+    next_pump (record { pumps = idle ∷ due ∷ blocked ∷ []; last = Some 1 }) ≡ Some 1
 the_same_again = refl
 
 pub none_is_due : next_pump (record { pumps = idle ∷ blocked ∷ []; last = Some 0 }) ≡ None

@@ -4,10 +4,11 @@ use Rattle.std.specs.Option.{option_or}
 use Rattle.up_pump.specs.Circle.{is_due_at, next_pump}
 use Rattle.up_pump.specs.Pumps.{Pumps}
 
--- the loop as it is before each call: the pumps are as many, and each call leaves what it gave for the next
+-- the loop before each call: no pump comes or goes, and the next call knows what the call gave
 pub record AreCalls (count : ℕ) (loops : ℕ → Pumps) : Type 0 where
   pub same_count : (call : ℕ) → length (loops call).pumps ≡ count
-  pub remembered : (call : ℕ) → (loops (call + 1)).last ≡ option_or (next_pump (loops call)) (loops call).last
+  pub remembered : (call : ℕ)
+      → (loops (call + 1)).last ≡ option_or (next_pump (loops call)) (loops call).last
 
 -- one of the first `count` calls gives the pump
 abbrev pub IsGiven : ℕ → (ℕ → Pumps) → ℕ → Type 0

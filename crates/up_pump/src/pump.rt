@@ -1,9 +1,11 @@
 ghost use Rattle.std.specs.Prelude.{◌≡◌};
 
-/// Whether a pump has work, and how many hold it back.
+/// What a loop knows of one pump.
 #[derive(Clone, Copy, Debug, Default, PartialEq, Eq)]
 pub struct Pump {
+    /// It has work.
     pub ready: bool,
+    /// How many hold it back.
     pub blockers: u32,
 }
 

@@ -1,8 +1,7 @@
-ghost use Rattle.std.specs.Prelude.{◌≡◌, ◌+◌, ◌-◌, ◌<◌, ◌↔◌, length, replicate, true, false, None, IfOk, IsErr, OnOk, OnErr};
+ghost use Rattle.std.specs.Prelude.{◌≡◌, ◌+◌, ◌-◌, ◌<◌, ◌↔◌, length, true, false, IfOk, IsErr, OnOk, OnErr};
 ghost use Rattle.std.specs.Option.{option_or};
 ghost use Rattle.up_pump.specs.Circle.{next_pump};
-ghost use Rattle.up_pump.specs.Pump.{idle};
-ghost use Rattle.up_pump.specs.Pumps.{pump_at, with_pump};
+ghost use Rattle.up_pump.specs.Pumps.{blockers_at, resting, with_blockers, with_readiness};
 
 use crate::circle::first_due;
 use crate::{Pump, TooManyBlockers};
@@ -31,7 +30,7 @@ impl Model for Loop {
 impl Loop {
     /// Pumps that are not ready and have no blockers. None was given yet.
     pub fn new(alloc: Global, n: usize) -> Result<Loop, NoMemory>
-        ensures { IfOk result (λ circle. circle ≡ record { pumps = replicate n idle; last = None }) }
+        ensures { IfOk result (λ circle. circle ≡ resting n) }
     {
         Ok(Loop {
             pumps: vec![in alloc; Pump::default(); n]?,
@@ -42,7 +41,7 @@ impl Loop {
     /// The pump has work.
     pub fn ready(&mut self, i: usize)
         requires { i < length self.old.pumps }
-        ensures { self.new ≡ with_pump i (record (pump_at self.old i) { ready = true }) self.old }
+        ensures { self.new ≡ with_readiness self.old i true }
     {
         self.pumps[i].ready = true;
     }
@@ -50,7 +49,7 @@ impl Loop {
     /// The pump has no work.
     pub fn rest(&mut self, i: usize)
         requires { i < length self.old.pumps }
-        ensures { self.new ≡ with_pump i (record (pump_at self.old i) { ready = false }) self.old }
+        ensures { self.new ≡ with_readiness self.old i false }
     {
         self.pumps[i].ready = false;
     }
@@ -58,9 +57,9 @@ impl Loop {
     /// Holds the pump back by one blocker more.
     pub fn block(&mut self, i: usize) -> Result<(), TooManyBlockers>
         requires { i < length self.old.pumps }
-        ensures refused { IsErr result ↔ ((pump_at self.old i).blockers ≡ u32.MAX) }
-        ensures blocked { let pump = pump_at self.old i in
-            OnOk result (self.new ≡ with_pump i (record pump { blockers = pump.blockers + 1 }) self.old) }
+        ensures refused { IsErr result ↔ (blockers_at self.old i ≡ u32.MAX) }
+        ensures blocked { OnOk result
+            (self.new ≡ with_blockers self.old i (blockers_at self.old i + 1)) }
         ensures unchanged { OnErr result (self.new ≡ self.old) }
     {
         let blockers = self.pumps[i].blockers;
@@ -74,9 +73,8 @@ impl Loop {
     /// Takes one of the pump's blockers away.
     pub fn unblock(&mut self, i: usize)
         requires within { i < length self.old.pumps }
-        requires blocked { 0 < (pump_at self.old i).blockers }
-        ensures { let pump = pump_at self.old i in
-            self.new ≡ with_pump i (record pump { blockers = pump.blockers - 1 }) self.old }
+        requires blocked { 0 < blockers_at self.old i }
+        ensures { self.new ≡ with_blockers self.old i (blockers_at self.old i - 1) }
     {
         self.pumps[i].blockers -= 1;
     }
@@ -84,13 +82,14 @@ impl Loop {
     /// How many blockers hold the pump back.
     pub fn blockers(&self, i: usize) -> u32
         requires { i < length self.now.pumps }
-        ensures { result ≡ (pump_at self.now i).blockers }
+        ensures { result ≡ blockers_at self.now i }
     {
         self.pumps[i].blockers
     }
 
+    /// The first pump after the one given last, in a circle, that is ready and has no blockers; the first from pump 0 on
+    /// where none was given yet. `None` where there is none.
     #[tactic(auto, using(crate::proofs::FirstDue::first_due_within))]
-    /// The next pump in the circle that is ready and has no blockers. `None` where there is none.
     pub fn next(&mut self) -> Option<usize>
         ensures given { result ≡ next_pump self.old }
         ensures pumps { self.new.pumps ≡ self.old.pumps }

@@ -13,7 +13,8 @@ abbrev start_of_a_unit : List ℕ
 start_of_a_unit = 0x47 ∷ 0x41 ∷ 0x00 ∷ 0xd7 ∷ []
 
 pub flags :
-    (transport_error_indicator start_of_a_unit ≡ false) × (payload_unit_start_indicator start_of_a_unit ≡ true)
+    (transport_error_indicator start_of_a_unit ≡ false)
+    × (payload_unit_start_indicator start_of_a_unit ≡ true)
     × (transport_priority start_of_a_unit ≡ false)
 flags = (refl, refl, refl)
 
@@ -39,5 +40,6 @@ after_the_field = refl
 pub empty_payload : payload_start (first_bytes 0x30 183) ≡ Some 188
 empty_payload = refl
 
-pub no_payload : (payload_start (first_bytes 0x20 7) ≡ None) × (payload_start (first_bytes 0x00 7) ≡ None)
+pub no_payload :
+    (payload_start (first_bytes 0x20 7) ≡ None) × (payload_start (first_bytes 0x00 7) ≡ None)
 no_payload = (refl, refl)

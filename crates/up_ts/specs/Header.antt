@@ -1,4 +1,4 @@
--- The fields of a packet's bytes 1 to 3: ISO/IEC 13818-1, 2.4.3.2. The highest bit of a byte comes first.
+-- The fields of a packet's bytes 1 to 3: ISO/IEC 13818-1, 2.4.3.2. Bit 7 of a byte is the highest.
 use Rattle.std.specs.Prelude.{◌≡◌, ℕ, ◌+◌, ◌*◌, Bool, ◌==◌, List, slice_index}
 use Rattle.up_ts.specs.Packet.{bits}
 use Rattle.up_ts.specs.declared.ts_header.TsHeader.{TsHeader}

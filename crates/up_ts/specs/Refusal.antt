@@ -1,20 +1,22 @@
--- Why bytes are no packet, in the order in which it is looked at: the length, the first byte, the adaptation field.
+-- Why bytes are refused: the length is looked at first, then byte 0, then the adaptation field.
 use Rattle.std.specs.Prelude.{◌≡◌, ◌≢◌, ℕ, ◌<◌, List, length, slice_get, Some}
 use Rattle.up_ts.specs.Header.{adaptation_field_control}
 use Rattle.up_ts.specs.Packet.{IsPacket}
 use Rattle.up_ts.specs.Payload.{adaptation_field_length}
-use Rattle.up_ts.specs.declared.packet.TheConstants.{TS_SIZE, SYNC_BYTE, MAX_FIELD}
+use Rattle.up_ts.specs.declared.packet.TheConstants.{FIELD_AND_PAYLOAD, MAX_FIELD, SYNC_BYTE, TS_SIZE}
 use Rattle.up_ts.specs.declared.ts_refused.TsRefused.{TsRefused}
 use Rattle.up_ts.specs.declared.ts_refused.TsRefused.TheVariants.{Short, NoSync, BadAdaptation}
 
 -- the bytes are no packet
 abbrev pub IsNoPacket : List ℕ → TsRefused → Type 0
 IsNoPacket bytes (Short len) = (len ≡ length bytes) × (len ≢ TS_SIZE)
-IsNoPacket bytes (NoSync byte) = (length bytes ≡ TS_SIZE) × (slice_get bytes 0 ≡ Some byte) × (byte ≢ SYNC_BYTE)
+IsNoPacket bytes (NoSync byte) =
+    (length bytes ≡ TS_SIZE) × (slice_get bytes 0 ≡ Some byte) × (byte ≢ SYNC_BYTE)
 IsNoPacket bytes (BadAdaptation len) = ⊥
 
 -- they are no packet, or the adaptation field before the payload has no room
 abbrev pub IsRefusedFor : List ℕ → TsRefused → Type 0
 IsRefusedFor bytes (BadAdaptation len) =
-    IsPacket bytes × (adaptation_field_control bytes ≡ 3) × (len ≡ adaptation_field_length bytes) × (MAX_FIELD < len)
+    IsPacket bytes × (adaptation_field_control bytes ≡ FIELD_AND_PAYLOAD)
+    × (len ≡ adaptation_field_length bytes) × (MAX_FIELD < len)
 IsRefusedFor bytes refused = IsNoPacket bytes refused

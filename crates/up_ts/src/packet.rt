@@ -7,5 +7,14 @@ pub const SYNC_BYTE: u8 = 0x47;
 /// The PID of null packets, which carry nothing.
 pub const NULL_PID: u16 = 0x1FFF;
 
-/// The largest adaptation_field_length in a packet: what is left after the header and the length byte.
+/// The size in bytes of the header, which begins each packet.
+pub const HEADER_SIZE: usize = 4;
+
+/// The adaptation_field_control of a packet with a payload and no adaptation field.
+pub const PAYLOAD_ONLY: u8 = 1;
+
+/// The adaptation_field_control of a packet with an adaptation field and then a payload.
+pub const FIELD_AND_PAYLOAD: u8 = 3;
+
+/// The largest adaptation_field_length: what is left of a packet after the header and the length byte.
 pub const MAX_FIELD: u8 = 183;

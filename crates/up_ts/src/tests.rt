@@ -1,4 +1,4 @@
-use crate::{TsHeader, TsRefused, header, payload_at};
+use crate::{NULL_PID, TsHeader, TsRefused, header, payload_at};
 use std::test::Fail;
 
 /// A packet whose bytes 1 to 4 are these.
@@ -162,6 +162,8 @@ fn headers_and_payloads_are_those_of_the_standard(rt: HostRuntime) {
         assert_eq!(rt; header(&packet(head)), Ok(fields), "{head:?}");
         assert_eq!(rt; payload_at(&packet(head)), place, "{head:?}");
     }
+    let null = fields(false, false, false, NULL_PID, 0, 1, 0);
+    assert_eq!(rt; header(&packet([0x1f, 0xff, 0x10, 0])), Ok(null));
 }
 
 #[test]
