@@ -5,6 +5,9 @@ pub mod Entries
 pub mod Kept
 pub mod Moved
 pub mod Parts
+pub mod RunStatuses
 pub mod Told
 pub mod Verdicts
+pub mod WholeChains
+pub mod WholeRuns
 pub mod Written

@@ -20,9 +20,11 @@ prefix_more : (put taken more block : List ℕ) (had_failed : Bool) → IsPrefix
     → IsPrefixOf more block → (had_failed ≡ true → more ≡ []) → IsPrefixOf (put ++ more) (taken ++ block)
 prefix_more put taken more block false prefix whole next nothing =
     (next.0, ap (λ l. taken ++ l) next.1 ∙ ap (λ l. l ++ (more ++ next.0)) (sym (whole refl)) ∙ sym (append_assoc put more next.0))
-prefix_more put taken more block true prefix whole next nothing =
-    (prefix.0 ++ block, ap (λ l. l ++ block) prefix.1 ∙ append_assoc put prefix.0 block
-      ∙ ap (λ l. l ++ (prefix.0 ++ block)) (sym (append-nil put) ∙ ap (λ l. put ++ l) (sym (nothing refl))))
+prefix_more put taken more block true prefix whole next nothing = (
+  prefix.0 ++ block,
+  ap (λ l. l ++ block) prefix.1 ∙ append_assoc put prefix.0 block
+      ∙ ap (λ l. l ++ (prefix.0 ++ block)) (sym (append-nil put) ∙ ap (λ l. put ++ l) (sym (nothing refl))),
+)
 
 works : (failed : Bool) → not failed ≡ true → failed ≡ false
 works false is = refl

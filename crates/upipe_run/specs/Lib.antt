@@ -1,6 +1,12 @@
 pub mod Asks
 pub mod Carried
+pub mod ChainEnds
+pub mod ChainRuns
+pub mod Faults
 pub mod Flow
 pub mod GraphText
 pub mod Objects
+pub mod Statuses
 pub mod Verdicts
+pub mod WholeOutput
+pub mod Words

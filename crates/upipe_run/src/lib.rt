@@ -1,9 +1,15 @@
 //! The top call: runs the graph of a file over a depot, and answers the status.
 #![tactic(auto)]
 
+mod chain;
 mod drain;
+mod fault;
 mod fill;
 mod flow;
 mod graph_text;
 mod path;
+mod program;
 mod verdict;
+mod words;
+
+pub use program::{run, run_single};

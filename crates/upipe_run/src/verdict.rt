@@ -20,7 +20,13 @@ pub fn verdict_of(flow: Result<FlowEnd, NoMemory>, shut: bool) -> Verdict
 {
     match flow {
         Ok(flow) => match flow.source {
-            End::Whole => { if !flow.sink_failed && shut { Verdict::Whole } else { Verdict::WriteFault } }
+            End::Whole => {
+                if !flow.sink_failed && shut {
+                    Verdict::Whole
+                } else {
+                    Verdict::WriteFault
+                }
+            }
             End::ReadFault => Verdict::ReadFault,
             End::TooLong => Verdict::TooLong,
         },
