@@ -2,10 +2,9 @@
 #![tactic(auto)]
 
 use std::alloc::Global;
-use std::env;
-use std::io;
 use std::process::ExitCode;
 use std::rt::Env;
+use std::{env, io};
 use up_base::{NoMemory, Text, WordList};
 use up_outside::{FileDepot, StdErr, StdOut};
 use upipe_run::run;
@@ -22,8 +21,12 @@ enum WordsFault {
 fn words_of<R: Env + AllocGlobal>(rt: &R) -> Result<WordList, WordsFault> {
     let alloc: Global = rt.alloc();
     let mut words = WordList::new(alloc);
-    let Ok(given) = env::args(rt) else {
-        return Err(WordsFault::NotGiven);
+    let given = match env::args(rt) {
+        Ok(given) => given,
+        Err(error) if error.kind() == io::ErrorKind::OutOfMemory => {
+            return Err(WordsFault::NoMemory);
+        }
+        Err(_) => return Err(WordsFault::NotGiven),
     };
     for word in given.skip(1) {
         let Ok(word) = Text::from_str(alloc, word.as_str()) else {
