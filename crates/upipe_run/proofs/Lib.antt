@@ -2,6 +2,7 @@ pub mod AskedRuns
 pub mod AskedTexts
 pub mod Ends
 pub mod Entries
+pub mod GraphCauses
 pub mod Kept
 pub mod Moved
 pub mod Parts

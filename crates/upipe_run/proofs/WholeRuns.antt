@@ -12,7 +12,7 @@ use Rattle.upipe_run.specs.GraphText.{IsStartAt}
 use Rattle.upipe_run.specs.WholeOutput.{RanWhole}
 
 -- a text that is short was read whole
-whole_text : (bytes text : List ℕ) (most : ℕ) → text ≡ take most bytes → length text < most → text ≡ bytes
+pub whole_text : (bytes text : List ℕ) (most : ℕ) → text ≡ take most bytes → length text < most → text ≡ bytes
 whole_text bytes text most start short =
     let cut : length (take most bytes) < most = rw (← start) short in
     start ∙ take_all most bytes (omega (arith, length-take most bytes))

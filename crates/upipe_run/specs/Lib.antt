@@ -1,5 +1,6 @@
 pub mod Asks
 pub mod Carried
+pub mod Causes
 pub mod ChainEnds
 pub mod ChainRuns
 pub mod Faults

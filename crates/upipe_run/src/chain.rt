@@ -1,9 +1,9 @@
 // The walk of a graph that is one chain.
-ghost use Rattle.std.specs.Prelude.{◌≡◌, ◌≤◌, OnOk, IfErr, IfSome};
+ghost use Rattle.std.specs.Prelude.{◌≡◌, OnOk, IfErr, IfSome};
 ghost use Rattle.up_model.specs.Chain.{IsChain};
 ghost use Rattle.upipe_run.specs.ChainEnds.{HasEnds};
 ghost use Rattle.upipe_run.specs.ChainRuns.{RanChain};
-ghost use Rattle.upipe_run.specs.Faults.{IsRunFault};
+ghost use Rattle.upipe_run.specs.Causes.{IsChainFault, HasLongSource, HasFaultCause};
 
 use crate::fault::Fault;
 use crate::path::carry_path;
@@ -49,9 +49,11 @@ pub fn run_chain<D: Depot>(alloc: Global, graph: &Graph, depot: &mut D) -> Resul
     requires { IsChain graph.now.pipes }
     ensures whole { IfSome (D.held depot.old) (λ before.
         OnOk result (RanChain before (D.held depot.new) graph.now.pipes)) }
-    ensures fault { IfErr result IsRunFault }
-    ensures sources { D.source_faults depot.old ≤ D.source_faults depot.new }
-    ensures sinks { D.sink_faults depot.old ≤ D.sink_faults depot.new }
+    ensures fault { IfErr result (IsChainFault graph.now.pipes) }
+    ensures too_long { IfSome (D.held depot.old) (λ before.
+        IfErr result (HasLongSource before graph.now.pipes)) }
+    ensures cause { HasFaultCause (D.source_faults depot.old) (D.source_faults depot.new)
+        (D.sink_faults depot.old) (D.sink_faults depot.new) result }
 {
     let ChainEnds {
         from,

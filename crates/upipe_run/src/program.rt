@@ -1,6 +1,7 @@
 ghost use Rattle.std.specs.Prelude.{◌≡◌, ◌⊎◌, ◌≤◌, false, IfErr, IfSome, OnOk};
 ghost use Rattle.upipe_run.specs.WholeOutput.{RanWhole};
 ghost use Rattle.upipe_run.specs.Faults.{IsRunFault};
+ghost use Rattle.upipe_run.specs.Causes.{HasBytesCause, SettlesNoGraph, AsksGraph, HasFaultCause};
 ghost use Rattle.upipe_run.specs.Statuses.{IsRunStatus, RanWholeBy};
 
 use crate::chain::run_chain;
@@ -19,9 +20,15 @@ use up_outside::{Depot, Sink};
 fn run_file<D: Depot>(alloc: Global, path: &str, depot: &mut D) -> Result<(), Fault>
     ensures whole { IfSome (D.held depot.old) (λ before.
         OnOk result (RanWhole before (D.held depot.new) path.now)) }
-    ensures fault { IfErr result IsRunFault }
-    ensures sources { D.source_faults depot.old ≤ D.source_faults depot.new }
-    ensures sinks { D.sink_faults depot.old ≤ D.sink_faults depot.new }
+    ensures refused { IfSome (D.held depot.old) (λ before.
+        IfErr result (HasBytesCause before path.now)) }
+    ensures taken { IfErr result IsRunFault }
+    ensures settled { IfSome (D.held depot.old) (λ before.
+        SettlesNoGraph before path.now result) }
+    ensures asked { IfSome (D.asked depot.old) (λ before.
+        AsksGraph before (D.asked depot.new) path.now result) }
+    ensures cause { HasFaultCause (D.source_faults depot.old) (D.source_faults depot.new)
+        (D.sink_faults depot.old) (D.sink_faults depot.new) result }
 {
     let text = match read_text(alloc, path, MAX_GRAPH + 1, depot) {
         Ok(text) => text,
