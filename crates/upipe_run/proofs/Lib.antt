@@ -1,5 +1,7 @@
 pub mod AskedRuns
 pub mod AskedTexts
+pub mod ChainAsks
+pub mod ChainPaths
 pub mod Ends
 pub mod Entries
 pub mod GraphCauses

@@ -23,12 +23,12 @@ use Rattle.upipe_run.specs.ChainRuns.{RanChain}
 use Rattle.upipe_run.specs.WholeOutput.{flow_of, flow_by, given_by, IsWholeSource, IsWholeSink, Copies, path_by, path_at}
 use Rattle.upipe_run.specs.declared.chain.ChainEnds.{ChainEnds}
 
-below : (pipes : List Pipe) (place : ℕ) (pipe : Pipe) → slice_get pipes place ≡ Some pipe → place < length pipes
+pub below : (pipes : List Pipe) (place : ℕ) (pipe : Pipe) → slice_get pipes place ≡ Some pipe → place < length pipes
 below [] place pipe at = absurd (cc)
 below (p ∷ pipes) zero pipe at = omega arith
 below (p ∷ pipes) (suc place) pipe at = let rest = below pipes place pipe at in omega arith
 
-same_pipe : (a b : Pipe) → Some a ≡ Some b → a ≡ b
+pub same_pipe : (a b : Pipe) → Some a ≡ Some b → a ≡ b
 same_pipe a b same = cc
 
 sink_is_no_source : (held : Held) (kind : Kind) → IsRawSink kind → IsWholeSource held kind

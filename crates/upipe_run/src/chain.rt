@@ -2,7 +2,7 @@
 ghost use Rattle.std.specs.Prelude.{◌≡◌, OnOk, IfErr, IfSome};
 ghost use Rattle.up_model.specs.Chain.{IsChain};
 ghost use Rattle.upipe_run.specs.ChainEnds.{HasEnds};
-ghost use Rattle.upipe_run.specs.ChainRuns.{RanChain};
+ghost use Rattle.upipe_run.specs.ChainRuns.{RanChain, KeepsNonSinks, AsksChain};
 ghost use Rattle.upipe_run.specs.Causes.{IsChainFault, HasLongSource, HasFaultCause};
 
 use crate::fault::Fault;
@@ -52,6 +52,10 @@ pub fn run_chain<D: Depot>(alloc: Global, graph: &Graph, depot: &mut D) -> Resul
     ensures fault { IfErr result (IsChainFault graph.now.pipes) }
     ensures too_long { IfSome (D.held depot.old) (λ before.
         IfErr result (HasLongSource before graph.now.pipes)) }
+    ensures others { IfSome (D.held depot.old) (λ before.
+        KeepsNonSinks before (D.held depot.new) graph.now.pipes) }
+    ensures asked { IfSome (D.asked depot.old) (λ before.
+        AsksChain before (D.asked depot.new) graph.now.pipes result) }
     ensures cause { HasFaultCause (D.source_faults depot.old) (D.source_faults depot.new)
         (D.sink_faults depot.old) (D.sink_faults depot.new) result }
 {
