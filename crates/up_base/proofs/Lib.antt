@@ -1,3 +1,5 @@
+pub mod NameExamples
 pub mod Names
+pub mod NumberExamples
 pub mod Numbers
 pub mod Padding

@@ -8,6 +8,8 @@ mod name;
 mod name_text;
 mod number;
 mod refusal;
+#[cfg(test)]
+mod tests;
 mod text;
 mod word_list;
 

@@ -1,7 +1,7 @@
 -- A chain passes on what its source puts out.
-use Rattle.std.proofs.Common.{◌≡◌, ℕ, zero, suc, ◌+◌, ◌<◌, ◌≤◌, List, [], ◌∷◌, length, Option, Some, None, slice_get, refl, sym, ap, subst, ◌∙◌, add-one, arith}
+use Rattle.std.proofs.Common.{◌≡◌, ℕ, zero, suc, ◌+◌, ◌<◌, List, [], ◌∷◌, length, Some, slice_get, refl, ap, add-one, arith}
 use Rattle.up_model.specs.Chain.{IsChain, IsRawSource}
-use Rattle.up_model.specs.Meaning.{Flow, put_out, put_by, taken_by, flow_within, flow_at, input_of, sink_bytes}
+use Rattle.up_model.specs.Meaning.{Flow, put_out, flow_within, sink_bytes}
 use Rattle.up_model.specs.Packet.{joined}
 use Rattle.up_model.specs.declared.kind.Kind.{Kind}
 use Rattle.up_model.specs.declared.kind.Kind.TheVariants.{Source, Sink, Idem}

@@ -1,7 +1,7 @@
 -- Bytes that are cut into packets at every multiple of a size.
 use Rattle.std.specs.Prelude.{ℕ, ◌+◌, ◌-◌, ◌*◌, ◌/◌, List, length, take, drop, map}
 use Rattle.std.specs.List.{range_with_len}
-use Rattle.up_model.specs.Packet.{PlainPacket, Flow, plain}
+use Rattle.up_model.specs.Packet.{Flow, plain}
 
 -- the bytes from this multiple of the size up to the next, or to the end
 abbrev pub piece : ℕ → List ℕ → ℕ → List ℕ

@@ -3,10 +3,10 @@ use Rattle.std.specs.Prelude.{ℕ, List, [], length, take, nat_lt, if◌then◌e
 use Rattle.up_model.specs.Cutting.{blocks, full_blocks}
 use Rattle.up_model.specs.Packet.{Flow}
 use Rattle.up_model.specs.declared.kind.Kind.{Kind}
-use Rattle.up_model.specs.declared.kind.Kind.TheVariants.{Source, Sink, Idem}
+use Rattle.up_model.specs.declared.kind.Kind.TheVariants.{Source}
 use Rattle.up_model.specs.declared.form.SourceForm.TheVariants.{Raw}
 use Rattle.up_model.specs.declared.outcome.Outcome.{Outcome}
-use Rattle.up_model.specs.declared.outcome.Outcome.TheVariants.{Whole, ReadFault, WriteFault, TooLong, Broken, NoMemory}
+use Rattle.up_model.specs.declared.outcome.Outcome.TheVariants.{Whole, ReadFault, WriteFault, TooLong}
 
 -- where no read fails: too long where there are more bytes than the limit, else whole
 abbrev pub outcome_of : Kind → List ℕ → Outcome

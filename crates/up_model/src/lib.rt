@@ -12,6 +12,8 @@ mod lists;
 mod outcome;
 mod pipe;
 mod tally;
+#[cfg(test)]
+mod tests;
 mod value;
 
 pub use catch_set::CatchSet;
