@@ -208,18 +208,26 @@ fn a_file_has_at_most_256_pipes(rt: HostRuntime) -> Result<(), Fail> {
     Ok(())
 }
 
+/// A text with blanks behind it, up to a size in bytes.
+fn padded(rt: &HostRuntime, text: &str, size: usize) -> Result<String, Fail> {
+    let mut padded = String::new(rt.alloc());
+    padded.push_str(text)?;
+    for _ in text.len()..size {
+        padded.push_str(" ")?;
+    }
+    Ok(padded)
+}
+
 #[test]
 fn a_file_has_at_most_1048576_bytes(rt: HostRuntime) -> Result<(), Fail> {
-    let alloc = rt.alloc();
-    let mut text = vec![in alloc; b' '; 1_048_576]?;
-    text[..CHAIN.len()].copy_from_slice(CHAIN.as_bytes());
-    let told = answer(&rt, &text)?;
+    let most = padded(&rt, CHAIN, 1_048_576)?;
+    let told = answer(&rt, most.as_bytes())?;
     assert_eq!(rt;
         told.as_str(),
         "source in.ts 1099511627776 idem sink out.ts "
     );
-    text.push(b' ')?;
-    let told = answer(&rt, &text)?;
+    let many = padded(&rt, CHAIN, 1_048_577)?;
+    let told = answer(&rt, many.as_bytes())?;
     assert_eq!(rt; told.as_str(), "TooBig 1048577");
     Ok(())
 }
