@@ -9,6 +9,8 @@ mod flow;
 mod graph_text;
 mod path;
 mod program;
+#[cfg(test)]
+mod tests;
 mod verdict;
 mod words;
 
