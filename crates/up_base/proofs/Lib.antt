@@ -1,3 +1,4 @@
 pub mod Names
+pub mod NumberBytes
 pub mod Numbers
 pub mod Padding
