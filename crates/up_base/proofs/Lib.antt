@@ -1,5 +1,6 @@
 pub mod NameExamples
 pub mod Names
+pub mod NumberBytes
 pub mod NumberExamples
 pub mod Numbers
 pub mod Padding

@@ -2,11 +2,13 @@
 #![tactic(auto)]
 
 mod bytes;
+mod decimal;
 mod item_list;
 mod kin;
 mod name;
 mod name_text;
 mod number;
+mod put_number;
 mod refusal;
 #[cfg(test)]
 mod tests;
@@ -14,11 +16,16 @@ mod text;
 mod word_list;
 
 pub use bytes::Bytes;
+pub use decimal::push_decimal;
 pub use item_list::{ItemList, NoRoom};
 pub use kin::Kin;
 pub use name::{AttrName, AttrNames, Name, PipeName, PipeNames, WorkerName, WorkerNames};
 pub use name_text::BadName;
 pub use number::{read_u16, read_u32, read_u64};
+pub use put_number::{put_u16, put_u32, put_u64, reads_back};
 pub use refusal::{Failed, NoMemory, Refusal};
 pub use text::Text;
 pub use word_list::WordList;
+
+#[cfg(test)]
+mod number_tests;

@@ -1,4 +1,4 @@
-use Rattle.std.proofs.Common.{◌≡◌, arith, sym}
+use Rattle.std.proofs.Common.{sym}
 use Rattle.up_base.proofs.Numbers.{big_endian-halves}
 use Rattle.up_base.proofs.number.read_u64.Goals as goal
 
