@@ -10,8 +10,6 @@ mod name_text;
 mod number;
 mod put_number;
 mod refusal;
-#[cfg(test)]
-mod tests;
 mod text;
 mod word_list;
 
@@ -29,3 +27,5 @@ pub use word_list::WordList;
 
 #[cfg(test)]
 mod number_tests;
+#[cfg(test)]
+mod tests;

@@ -8,7 +8,10 @@ fn numbers_are_put_with_the_highest_byte_first_and_read_back(rt: HostRuntime) ->
     assert_eq!(rt; put_u32(&mut out, 0x0304_0506), Ok(()));
     assert_eq!(rt; put_u64(&mut out, 0x0708_090a_0b0c_0d0e), Ok(()));
     let bytes = out.as_slice();
-    assert_eq!(rt; bytes, [1, 2, 3, 4, 5, 6, 7, 8, 9, 10, 11, 12, 13, 14].as_slice());
+    assert_eq!(rt;
+        bytes,
+        [1, 2, 3, 4, 5, 6, 7, 8, 9, 10, 11, 12, 13, 14].as_slice()
+    );
     assert_eq!(rt; read_u16(bytes, 0), 0x0102);
     assert_eq!(rt; read_u32(bytes, 2), 0x0304_0506);
     assert_eq!(rt; read_u64(bytes, 6), 0x0708_090a_0b0c_0d0e);

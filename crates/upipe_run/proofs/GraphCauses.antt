@@ -37,18 +37,18 @@ no_graph : (before : Held) (path text : List ℕ) (refusal : GraphRefused) → I
 no_graph before path text refusal start refused =
     elim (cases_lt (length text) 1048577) [
       | inl short ↦
-        let same : text ≡ start.bytes = whole_text start.bytes text 1048577 start.start short in
-        record { text = start.bytes; at_path = start.at_path; first = refusal; refused = rw (← same) refused; alike = alike_itself refusal }
+          let same : text ≡ start.bytes = whole_text start.bytes text 1048577 start.start short in
+          record { text = start.bytes; at_path = start.at_path; first = refusal; refused = rw (← same) refused; alike = alike_itself refusal }
       | inr long ↦
-        let is : refusal ≡ refusals.TooBig (length text) = same_refusal refusal (refusals.TooBig (length text)) text refused (graph_of-big text (omega arith)) in
-        let bytes_long : 1048576 < length start.bytes = omega (arith, ap length start.start, length-take 1048577 start.bytes) in
-        record {
-          text = start.bytes;
-          at_path = start.at_path;
-          first = refusals.TooBig (length start.bytes);
-          refused = graph_of-big start.bytes bytes_long;
-          alike = rw is tt;
-        }
+          let is : refusal ≡ refusals.TooBig (length text) = same_refusal refusal (refusals.TooBig (length text)) text refused (graph_of-big text (omega arith)) in
+          let bytes_long : 1048576 < length start.bytes = omega (arith, ap length start.start, length-take 1048577 start.bytes) in
+          record {
+            text = start.bytes;
+            at_path = start.at_path;
+            first = refusals.TooBig (length start.bytes);
+            refused = graph_of-big start.bytes bytes_long;
+            alike = rw is tt;
+          }
     ]
 
 refused_by : (before : Held) (path text : List ℕ) (refusal : GraphRefused) → IsStartAt before path 1048577 text
