@@ -6,7 +6,7 @@ use Rattle.up_outside.specs.Asked.{entry, refused}
 use Rattle.up_outside.specs.declared.asked.Entry.{Entry}
 use Rattle.up_outside.specs.declared.asked.Side.TheVariants.{Source, Sink}
 use Rattle.up_outside.specs.declared.asked.Mark.TheVariants.{Refused, Closed}
-use Rattle.upipe_run.specs.Asks.{AsksPaths}
+use Rattle.upipe_run.specs.Asks.{AsksPaths, EndsRefused}
 use Rattle.upipe_run.specs.Verdicts.{sink_refused}
 use Rattle.upipe_run.specs.declared.verdict.Verdict.{Verdict}
 use Rattle.upipe_run.specs.declared.verdict.Verdict.TheVariants.{Whole, ReadFault, WriteFault, TooLong, NoMemory}
@@ -103,3 +103,19 @@ module _ (from to : List ℕ) where
     read_fault = λ e. (entry from Source (Closed n failed true), refl, read e);
     write_fault = λ e. (entry to Sink (Closed grown.0 sink_failed shut), refl, write e);
   }
+
+-- where the sink was refused, its entry is the last
+pub ends_refused : (a0 a3 : Option (List Entry)) (from to : List ℕ) (failed : Bool) (e : Refusal) → sink_refused e ≡ WriteFault
+    → IfSome a0 (λ xs. a3 ≡ Some (xs ++ entry from Source (Closed 0 failed true) ∷ refused e to Sink)) → EndsRefused a0 a3
+ends_refused None a3 from to failed e is grown = tt
+ends_refused (Some x) a3 from to failed refusals.Failed is grown = record { front = entry from Source (Closed 0 failed true) ∷ []; path = to; told = grown }
+ends_refused (Some x) a3 from to failed refusals.NoMemory is grown = absurd (cc)
+
+-- one of two facts, the second of which isn't about what is told
+pub right_told : {X : Type 0} (told : Option X) (A : Type 0) (P : X → Type 0) (B : Type 0) → (A → B) → IfSome told (λ x. A → P x ⊎ B)
+right_told None A P B fact = tt
+right_told (Some x) A P B fact = λ a. inr (fact a)
+
+pub left_told : {X : Type 0} (told : Option X) (A : Type 0) (P : X → Type 0) (B : Type 0) → (A → IfSome told P) → IfSome told (λ x. A → P x ⊎ B)
+left_told None A P B fact = tt
+left_told (Some x) A P B fact = λ a. inl (fact a)

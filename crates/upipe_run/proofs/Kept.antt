@@ -5,7 +5,7 @@ use Rattle.std.specs.Cmp.Lexicographic.{nat_list_cmp_total}
 use Rattle.std.specs.FinMap.{get, insert, get-insert}
 use Rattle.std.specs.Io.KnownBytes.{Consumes, Appends, IsAtEnd}
 use Rattle.up_outside.specs.Held.{Held, Opens, KeepsOthers}
-use Rattle.upipe_run.specs.Carried.{IsCopied, IsTooLong}
+use Rattle.upipe_run.specs.Carried.{IsCopied, IsTooLong, IsWithin}
 use Rattle.upipe_run.specs.Flow.{Moves}
 
 pub get-insert_same : (m : Held) (path bytes : List ℕ) → get (insert m path bytes) path ≡ Some bytes
@@ -70,3 +70,13 @@ too_long None from l0 l1 w0 w1 complete count limit opens moves beyond = tt
 too_long (Some m) from l0 l1 w0 w1 complete count limit opens moves beyond =
     let rest = rest_left l1 opens.bytes moves.taken (subst (λ l. Consumes l l1 moves.taken) opens.told moves.consumed) in
     record { bytes = opens.bytes; at_source = opens.at_path; beyond = omega (arith, ap length rest.2, length-append moves.taken rest.0, moves.total) }
+
+-- a flow that was read to its end within the limit shows that the path has no more
+pub within : (h0 : Option Held) (from : List ℕ) (l0 l1 w0 w1 : Option (List ℕ)) (complete : Bool) (count limit : ℕ)
+    → IfSome h0 (λ m. Opens m from l0) → Moves l0 l1 w0 w1 complete count → IsAtEnd l1 → count ≤ limit → IfSome h0 (λ m. IsWithin m from limit)
+within None from l0 l1 w0 w1 complete count limit opens moves ended most = tt
+within (Some m) from l0 l1 w0 w1 complete count limit opens moves ended most =
+    let rest = rest_left l1 opens.bytes moves.taken (subst (λ l. Consumes l l1 moves.taken) opens.told moves.consumed) in
+    let none : rest.0 ≡ [] = subst IsAtEnd rest.1 ended in
+    let all : opens.bytes ≡ moves.taken = rest.2 ∙ ap (λ l. moves.taken ++ l) none ∙ append-nil moves.taken in
+    record { bytes = opens.bytes; at_source = opens.at_path; within = omega (arith, ap length all, moves.total) }

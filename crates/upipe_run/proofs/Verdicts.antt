@@ -34,16 +34,16 @@ pub when_read_fault : (flow : Result FlowEnd WantOfMemory) (shut : Bool) → ver
 when_read_fault (Ok end) shut is = (end, refl, read_fault_by end.source end.sink_failed shut is)
 when_read_fault (Err refused) shut is = absurd (cc)
 
-write_fault_by : (source : End) (failed shut : Bool) → verdict_by source failed shut ≡ WriteFault → (failed ≡ true) ⊎ (shut ≡ false)
+write_fault_by : (source : End) (failed shut : Bool) → verdict_by source failed shut ≡ WriteFault → (source ≡ ends.Whole) × ((failed ≡ true) ⊎ (shut ≡ false))
 write_fault_by ends.Whole false true is = absurd (cc)
-write_fault_by ends.Whole false false is = inr refl
-write_fault_by ends.Whole true shut is = inl refl
+write_fault_by ends.Whole false false is = (refl, inr refl)
+write_fault_by ends.Whole true shut is = (refl, inl refl)
 write_fault_by ends.ReadFault failed shut is = absurd (cc)
 write_fault_by ends.TooLong failed shut is = absurd (cc)
 
 pub when_write_fault : (flow : Result FlowEnd WantOfMemory) (shut : Bool) → verdict_of flow shut ≡ WriteFault
-    → (end : FlowEnd) × (flow ≡ Ok end) × ((end.sink_failed ≡ true) ⊎ (shut ≡ false))
-when_write_fault (Ok end) shut is = (end, refl, write_fault_by end.source end.sink_failed shut is)
+    → (end : FlowEnd) × (flow ≡ Ok end) × (end.source ≡ ends.Whole) × ((end.sink_failed ≡ true) ⊎ (shut ≡ false))
+when_write_fault (Ok end) shut is = let by = write_fault_by end.source end.sink_failed shut is in (end, refl, by.0, by.1)
 when_write_fault (Err refused) shut is = absurd (cc)
 
 too_long_by : (source : End) (failed shut : Bool) → verdict_by source failed shut ≡ TooLong → source ≡ ends.TooLong

@@ -1,11 +1,11 @@
 -- What a run asked of its depot: a prefix of the paths, in order.
-use Rattle.std.specs.Prelude.{◌≡◌, ◌≢◌, ◌⊎◌, ℕ, List, [], ◌∷◌, ◌++◌, length, map, Bool, true, false, Option, Some, Result, Ok, Err, slice_get}
+use Rattle.std.specs.Prelude.{◌≡◌, ◌≢◌, ◌⊎◌, ℕ, List, [], ◌∷◌, ◌++◌, length, map, Bool, true, false, Option, Some, IfSome, Result, Ok, Err, slice_get}
 use Rattle.std.specs.List.{AllByRecursion}
 use Rattle.up_base.specs.declared.refusal.Refusal.{Refusal}
 use Rattle.up_base.specs.declared.refusal.Refusal.TheVariants as refusals
 use Rattle.up_outside.specs.Asked.{entry}
 use Rattle.up_outside.specs.declared.asked.Entry.{Entry}
-use Rattle.up_outside.specs.declared.asked.Side.TheVariants.{Source}
+use Rattle.up_outside.specs.declared.asked.Side.TheVariants.{Source, Sink}
 use Rattle.up_outside.specs.declared.asked.Mark.{Mark}
 use Rattle.up_outside.specs.declared.asked.Mark.TheVariants.{Refused, Open, Closed}
 use Rattle.upipe_run.specs.Flow.{IsPrefixOf}
@@ -37,6 +37,15 @@ pub record AsksPaths (old : List Entry) (new : Option (List Entry)) (from to : L
   pub all_asked : (verdict ≡ Whole) ⊎ (verdict ≡ TooLong) → length grown ≡ 2
   pub read_fault : verdict ≡ ReadFault → MarkAt grown 0 has_failed
   pub write_fault : verdict ≡ WriteFault → MarkAt grown 1 has_failed
+
+-- the last entry that was added is a sink's, whose open was refused
+pub record AddsRefused (old : List Entry) (new : Option (List Entry)) : Type 0 where
+  pub front : List Entry
+  pub path : List ℕ
+  pub told : new ≡ Some (old ++ (front ++ entry path Sink Refused ∷ []))
+
+abbrev pub EndsRefused : Option (List Entry) → Option (List Entry) → Type 0
+EndsRefused old new = IfSome old (λ entries. AddsRefused entries new)
 
 -- the one entry of a file that was read: closed where it was read, refused or closed with a fault where it wasn't, and
 -- none where there was no memory

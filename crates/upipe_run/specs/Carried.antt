@@ -21,6 +21,12 @@ pub record IsTooLong (before : Held) (from : List ℕ) (limit : ℕ) : Type 0 wh
   pub at_source : get before from ≡ Some bytes
   pub beyond : limit < length bytes
 
+-- the path is held, and has no more bytes than the limit
+pub record IsWithin (before : Held) (from : List ℕ) (limit : ℕ) : Type 0 where
+  pub bytes : List ℕ
+  pub at_source : get before from ≡ Some bytes
+  pub within : length bytes ≤ limit
+
 -- a fault is the verdict only where its side's count rose, and neither count fell
 pub record HasVerdictCause (old_sources new_sources old_sinks new_sinks : ℕ) (verdict : Verdict) : Type 0 where
   pub sources : old_sources ≤ new_sources

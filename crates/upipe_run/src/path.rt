@@ -1,8 +1,8 @@
 // The bytes at one path are carried to another.
-ghost use Rattle.std.specs.Prelude.{◌≡◌, ◌<◌, ◌≤◌, ◌^◌, IfSome};
+ghost use Rattle.std.specs.Prelude.{◌≡◌, ◌⊎◌, ◌<◌, ◌≤◌, ◌^◌, IfSome};
 ghost use Rattle.up_outside.specs.Held.{KeepsOthers};
-ghost use Rattle.upipe_run.specs.Carried.{IsCopied, IsTooLong, HasVerdictCause};
-ghost use Rattle.upipe_run.specs.Asks.{AsksPaths};
+ghost use Rattle.upipe_run.specs.Carried.{IsCopied, IsTooLong, IsWithin, HasVerdictCause};
+ghost use Rattle.upipe_run.specs.Asks.{AsksPaths, EndsRefused};
 
 use crate::flow::carry;
 use crate::verdict::{Verdict, sink_refused, verdict_of};
@@ -26,6 +26,8 @@ pub fn carry_path<D: Depot>(
         → IsCopied before (D.held depot.new) from.now to.now limit) }
     ensures too_long { IfSome (D.held depot.old) (λ before. result ≡ Verdict.TooLong
         → IsTooLong before from.now limit) }
+    ensures sink_last { IfSome (D.held depot.old) (λ before. result ≡ Verdict.WriteFault
+        → IsWithin before from.now limit ⊎ EndsRefused (D.asked depot.old) (D.asked depot.new)) }
     ensures others { IfSome (D.held depot.old) (λ before.
         KeepsOthers before (D.held depot.new) to.now) }
     ensures asked { IfSome (D.asked depot.old) (λ before.

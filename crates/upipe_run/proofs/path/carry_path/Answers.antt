@@ -1,12 +1,13 @@
 use Rattle.std.proofs.Common.{arith, ◌≡◌, ◌<◌, true, false, refl, sym, ◌∙◌, is_ok, nat_lt, not, ◌||◌}
 use Rattle.std.proofs.lemmas.Bool.{lt-ltb}
 use Rattle.up_outside.specs.Counts.{Rose}
-use Rattle.upipe_run.specs.Carried.{IsCopied, IsTooLong}
+use Rattle.upipe_run.specs.Carried.{IsCopied, IsTooLong, IsWithin}
+use Rattle.upipe_run.specs.Asks.{EndsRefused}
 use Rattle.upipe_run.specs.Flow.{is_complete}
 use Rattle.upipe_run.specs.declared.verdict.Verdict.TheVariants.{ReadFault, WriteFault}
-use Rattle.upipe_run.proofs.AskedRuns.{under, on_ok, says_failed, asks_nothing, asked_as_before, asks_refused, asks_sink_refused, asks_both}
+use Rattle.upipe_run.proofs.AskedRuns.{under, on_ok, says_failed, asks_nothing, asked_as_before, asks_refused, asks_sink_refused, asks_both, ends_refused, right_told, left_told}
 use Rattle.upipe_run.proofs.Entries.{source_stands, sink_stands, both_closed, refused_and_closed, refused_adds, opened_adds}
-use Rattle.upipe_run.proofs.Kept.{keeps_told, keeps_as_is, others_kept, copied, too_long}
+use Rattle.upipe_run.proofs.Kept.{keeps_told, keeps_as_is, others_kept, copied, too_long, within}
 use Rattle.upipe_run.proofs.Verdicts.{when_whole, when_read_fault, when_write_fault, when_too_long, complete}
 use Rattle.upipe_run.proofs.path.carry_path.Goals as goal
 
@@ -131,7 +132,7 @@ returns-clause-asked g c =
     let end = when_write_fault c.carry-flow.result c.is_ok.result (sym c.verdict_of.ensures ∙ is) in
     says_failed faulty closed end.0.sink_failed c.is_ok.result c.is_ok.ensures.value
     (λ did. let rose : Rose (sink.faults c.in-Ok-open_sink.sink) (sink.faults c.carry-flow.new.sink) = (rw end.1 at carried.write_fault) did in
-    lt-ltb 0 (sink.faults c.carry-flow.new.sink) (omega arith)) end.2 in
+    lt-ltb 0 (sink.faults c.carry-flow.new.sink) (omega arith)) end.3 in
     asks_both c.args.from.now c.args.to.now (asked c.args.depot.now) (asked c.close_sink-closed.new.self)
     carried.bytes.count failed (faulty || not closed) closed c.verdict_of.result
     (both_closed (asked c.args.depot.now) (asked c.open_source.new.self) (asked c.open_sink.new.self) (asked c.close_source-2.new.self) (asked c.close_sink-closed.new.self) c.args.from.now c.args.to.now
@@ -141,3 +142,32 @@ returns-clause-asked g c =
     c.in-Ok-open_source.ensures.asked_ok c.in-Ok-open_sink.ensures.asked_ok c.close_source-2.ensures.asked c.close_sink-closed.ensures.asked
     carried.same_source.place carried.bytes.sum carried.same_sink.place carried.sink_sum)
     read_fault write_fault
+
+pub returns-in-Err-clause-sink_last : goal.returns-in-Err-clause-sink_last
+returns-in-Err-clause-sink_last g c =
+    let asked = g.D.Depot.asked in
+    let held = g.D.Depot.held in
+    let source = g.D.Src.Source in
+    let failed = nat_lt 0 (source.faults c.in-Ok-open_source.source) in
+    right_told (held c.args.depot.now) (c.sink_refused.result ≡ WriteFault) (λ before. IsWithin before c.args.from.now c.args.limit)
+    (EndsRefused (asked c.args.depot.now) (asked c.close_source.new.self)) (λ is.
+    ends_refused (asked c.args.depot.now) (asked c.close_source.new.self) c.args.from.now c.args.to.now failed c.in-Err.refusal (sym c.sink_refused.ensures ∙ is)
+    (refused_and_closed (asked c.args.depot.now) (asked c.open_source.new.self) (asked c.open_sink.new.self) (asked c.close_source.new.self) c.args.from.now c.args.to.now
+    (source.place c.in-Ok-open_source.source) (source.moved c.in-Ok-open_source.source) c.in-Err.refusal failed
+    c.in-Ok-open_source.ensures.asked_ok c.in-Err.ensures.asked_err c.close_source.ensures.asked))
+
+pub returns-clause-sink_last : goal.returns-clause-sink_last
+returns-clause-sink_last g c =
+    let asked = g.D.Depot.asked in
+    let held = g.D.Depot.held in
+    let source = g.D.Src.Source in
+    let sink = g.D.Snk.Sink in
+    let bytes = c.carry-flow.ensures.bytes in
+    left_told (held c.args.depot.now) (c.verdict_of.result ≡ WriteFault) (λ before. IsWithin before c.args.from.now c.args.limit)
+    (EndsRefused (asked c.args.depot.now) (asked c.close_sink-closed.new.self)) (λ is.
+    let end = when_write_fault c.carry-flow.result c.is_ok.result (sym c.verdict_of.ensures ∙ is) in
+    let ended = (rw end.1 at bytes.whole) end.2 in
+    within (held c.args.depot.now) c.args.from.now
+    (source.left c.in-Ok-open_source.source) (source.left c.carry-flow.new.source) (sink.written c.in-Ok-open_sink.sink) (sink.written c.carry-flow.new.sink)
+    (is_complete c.carry-flow.result) bytes.count c.args.limit
+    c.in-Ok-open_source.ensures.opens bytes.moves ended.0 ended.1)
