@@ -89,8 +89,10 @@ fn a_name_has_at_most_64_bytes(rt: HostRuntime) {
     for (len, blank, wanted) in texts {
         let mut bytes = [b'a'; 100];
         if let Some(place) = blank {
+            assert!(rt; place < bytes.len());
             bytes[place] = b' ';
         }
+        assert!(rt; len <= bytes.len());
         assert_each_reads(&rt, &bytes[..len], wanted);
     }
 }
