@@ -5,6 +5,7 @@ pub mod ChainRuns
 pub mod Faults
 pub mod Flow
 pub mod GraphText
+pub mod Lines
 pub mod Objects
 pub mod Statuses
 pub mod Verdicts

@@ -7,8 +7,10 @@ mod fault;
 mod fill;
 mod flow;
 mod graph_text;
+mod line;
 mod path;
 mod program;
+mod tell;
 mod verdict;
 mod words;
 
