@@ -2,10 +2,12 @@ pub mod AskedRuns
 pub mod AskedTexts
 pub mod ChainAsks
 pub mod ChainPaths
+pub mod Drained
 pub mod Ends
 pub mod Entries
 pub mod GraphCauses
 pub mod Kept
+pub mod LineExamples
 pub mod Moved
 pub mod Parts
 pub mod RunStatuses

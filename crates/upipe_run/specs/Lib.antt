@@ -6,6 +6,7 @@ pub mod ChainRuns
 pub mod Faults
 pub mod Flow
 pub mod GraphText
+pub mod Lines
 pub mod Objects
 pub mod Statuses
 pub mod Verdicts

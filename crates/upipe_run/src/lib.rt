@@ -7,11 +7,14 @@ mod fault;
 mod fill;
 mod flow;
 mod graph_text;
+mod line;
 mod path;
 mod program;
-#[cfg(test)]
-mod tests;
+mod tell;
 mod verdict;
 mod words;
 
 pub use program::{run, run_single};
+
+#[cfg(test)]
+mod tests;
