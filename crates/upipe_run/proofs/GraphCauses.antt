@@ -9,7 +9,9 @@ use Rattle.up_graph.specs.declared.graph_refused.GraphRefused.{GraphRefused}
 use Rattle.up_graph.specs.declared.graph_refused.GraphRefused.TheVariants as refusals
 use Rattle.up_model.specs.declared.graph.Graph.{Graph}
 use Rattle.up_outside.specs.Held.{Held}
-use Rattle.upipe_run.specs.Causes.{IsChainFault, HasLongSource, AreAlike, HasNoGraph, HasBytesCause, SettlesNoGraph}
+use Rattle.upipe_run.specs.Causes.{IsChainFault, HasChainCause, AreAlike, HasNoGraph, HasBytesCause, SettlesNoGraph}
+use Rattle.upipe_run.specs.Asks.{EndsRefused, AsksText}
+use Rattle.up_outside.specs.declared.asked.Entry.{Entry}
 use Rattle.upipe_run.specs.GraphText.{IsStartAt}
 use Rattle.upipe_run.specs.declared.fault.Fault.{Fault}
 use Rattle.upipe_run.specs.declared.fault.Fault.TheVariants as faults
@@ -51,43 +53,45 @@ no_graph before path text refusal start refused =
           }
     ]
 
-refused_by : (before : Held) (path text : List ℕ) (refusal : GraphRefused) → IsStartAt before path 1048577 text
-    → Answers (λ (graph : Graph). graph) (Err refusal) (graph_of text) → HasBytesCause before path (faults.Graph refusal)
-refused_by before path text refusals.NoMemory start refused = tt
-refused_by before path text (refusals.TooBig count) start refused = no_graph before path text (refusals.TooBig count) start refused
-refused_by before path text refusals.NotToml start refused = no_graph before path text refusals.NotToml start refused
-refused_by before path text (refusals.BadVersion got) start refused = no_graph before path text (refusals.BadVersion got) start refused
-refused_by before path text refusals.NoPipes start refused = no_graph before path text refusals.NoPipes start refused
-refused_by before path text (refusals.TooManyPipes count) start refused = no_graph before path text (refusals.TooManyPipes count) start refused
-refused_by before path text (refusals.BadField pipe field) start refused = no_graph before path text (refusals.BadField pipe field) start refused
+module _ (a0 a2 : Option (List Entry)) where
+  refused_by : (before : Held) (path text : List ℕ) (refusal : GraphRefused) → IsStartAt before path 1048577 text
+      → Answers (λ (graph : Graph). graph) (Err refusal) (graph_of text) → HasBytesCause before path a0 a2 (faults.Graph refusal)
+  refused_by before path text refusals.NoMemory start refused = tt
+  refused_by before path text (refusals.TooBig count) start refused = no_graph before path text (refusals.TooBig count) start refused
+  refused_by before path text refusals.NotToml start refused = no_graph before path text refusals.NotToml start refused
+  refused_by before path text (refusals.BadVersion got) start refused = no_graph before path text (refusals.BadVersion got) start refused
+  refused_by before path text refusals.NoPipes start refused = no_graph before path text refusals.NoPipes start refused
+  refused_by before path text (refusals.TooManyPipes count) start refused = no_graph before path text (refusals.TooManyPipes count) start refused
+  refused_by before path text (refusals.BadField pipe field) start refused = no_graph before path text (refusals.BadField pipe field) start refused
 
--- the reader refused the text
-pub refused_told : (h0 : Option Held) (path text : List ℕ) (refusal : GraphRefused) → IfSome h0 (λ before. IsStartAt before path 1048577 text)
-    → Answers (λ (graph : Graph). graph) (Err refusal) (graph_of text) → IfSome h0 (λ before. HasBytesCause before path (faults.Graph refusal))
-refused_told None path text refusal start refused = tt
-refused_told (Some before) path text refusal start refused = refused_by before path text refusal start refused
+  -- the reader refused the text
+  pub refused_told : (h0 : Option Held) (path text : List ℕ) (refusal : GraphRefused) → IfSome h0 (λ before. IsStartAt before path 1048577 text)
+      → Answers (λ (graph : Graph). graph) (Err refusal) (graph_of text) → IfSome h0 (λ before. HasBytesCause before path a0 a2 (faults.Graph refusal))
+  refused_told None path text refusal start refused = tt
+  refused_told (Some before) path text refusal start refused = refused_by before path text refusal start refused
 
-chain_cause : (before : Held) (path text : List ℕ) (graph : Graph) (fault : Fault) → get before path ≡ Some text → graph_of text ≡ Ok graph
-    → IsChainFault graph.pipes fault → HasLongSource before graph.pipes fault → HasBytesCause before path fault
-chain_cause before path text graph faults.Usage at reads is long = absurd is
-chain_cause before path text graph (faults.Graph refusal) at reads is long = absurd is
-chain_cause before path text graph faults.ReadGraph at reads is long = tt
-chain_cause before path text graph (faults.Read name) at reads is long = tt
-chain_cause before path text graph (faults.Write name) at reads is long = tt
-chain_cause before path text graph (faults.TooLong name limit) at reads is long =
-    record { text = text; at_path = at; graph = graph; reads = reads; long = long }
-chain_cause before path text graph faults.NoMemory at reads is long = tt
+  chain_cause : (before : Held) (path text : List ℕ) (graph : Graph) (a1 : Option (List Entry)) (fault : Fault) → get before path ≡ Some text → graph_of text ≡ Ok graph
+      → (EndsRefused a1 a2 → EndsRefused a0 a2) → IsChainFault graph.pipes fault → HasChainCause before graph.pipes a1 a2 fault → HasBytesCause before path a0 a2 fault
+  chain_cause before path text graph a1 faults.Usage at reads more is cause = absurd is
+  chain_cause before path text graph a1 (faults.Graph refusal) at reads more is cause = absurd is
+  chain_cause before path text graph a1 faults.ReadGraph at reads more is cause = tt
+  chain_cause before path text graph a1 (faults.Read name) at reads more is cause = record { text = text; at_path = at; graph = graph; reads = reads; so = is }
+  chain_cause before path text graph a1 (faults.Write name) at reads more is cause =
+      record { text = text; at_path = at; graph = graph; reads = reads; so = (is, elim cause [ inl whole ↦ inl whole | inr refused ↦ inr (more refused) ]) }
+  chain_cause before path text graph a1 (faults.TooLong name limit) at reads more is cause =
+      record { text = text; at_path = at; graph = graph; reads = reads; so = cause }
+  chain_cause before path text graph a1 faults.NoMemory at reads more is cause = tt
 
--- the chain of the text met a fault
-pub chain_told : (h0 h1 : Option Held) (path text : List ℕ) (graph : Graph) (fault : Fault) → graph_of text ≡ Ok graph → length text < 1048577
-    → IfSome h0 (λ before. IsStartAt before path 1048577 text) → IfSome h0 (λ before. h1 ≡ Some before)
-    → IsChainFault graph.pipes fault → IfSome h1 (λ before. HasLongSource before graph.pipes fault) → IfSome h0 (λ before. HasBytesCause before path fault)
-chain_told None h1 path text graph fault reads short start same is long = tt
-chain_told (Some before) h1 path text graph fault reads short start same is long =
-    let whole : text ≡ start.bytes = whole_text start.bytes text 1048577 start.start short in
-    chain_cause before path text graph fault (start.at_path ∙ ap Some (sym whole)) reads is (rw same at long)
+  -- the chain of the text met a fault
+  pub chain_told : (h0 h1 : Option Held) (path text : List ℕ) (graph : Graph) (a1 : Option (List Entry)) (fault : Fault) → graph_of text ≡ Ok graph → length text < 1048577
+      → IfSome h0 (λ before. IsStartAt before path 1048577 text) → IfSome h0 (λ before. h1 ≡ Some before) → (EndsRefused a1 a2 → EndsRefused a0 a2)
+      → IsChainFault graph.pipes fault → IfSome h1 (λ before. HasChainCause before graph.pipes a1 a2 fault) → IfSome h0 (λ before. HasBytesCause before path a0 a2 fault)
+  chain_told None h1 path text graph a1 fault reads short start same more is cause = tt
+  chain_told (Some before) h1 path text graph a1 fault reads short start same more is cause =
+      let whole : text ≡ start.bytes = whole_text start.bytes text 1048577 start.start short in
+      chain_cause before path text graph a1 fault (start.at_path ∙ ap Some (sym whole)) reads more is (rw same at cause)
 
-same_text : (a b : List ℕ) → Some a ≡ Some b → a ≡ b
+pub same_text : (a b : List ℕ) → Some a ≡ Some b → a ≡ b
 same_text a b same = cc
 
 -- where the text has a graph, nothing is to be settled of a text without one

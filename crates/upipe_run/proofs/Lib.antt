@@ -2,6 +2,7 @@ pub mod AskedRuns
 pub mod AskedTexts
 pub mod ChainAsks
 pub mod ChainPaths
+pub mod Completions
 pub mod Drained
 pub mod Ends
 pub mod Entries
@@ -10,6 +11,7 @@ pub mod Kept
 pub mod LineExamples
 pub mod Moved
 pub mod Parts
+pub mod RunAskings
 pub mod RunStatuses
 pub mod Told
 pub mod Verdicts

@@ -3,11 +3,13 @@ pub mod Carried
 pub mod Causes
 pub mod ChainEnds
 pub mod ChainRuns
+pub mod Explained
 pub mod Faults
 pub mod Flow
 pub mod GraphText
 pub mod Lines
 pub mod Objects
+pub mod RunAsks
 pub mod Statuses
 pub mod Verdicts
 pub mod WholeOutput

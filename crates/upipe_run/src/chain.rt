@@ -3,7 +3,7 @@ ghost use Rattle.std.specs.Prelude.{◌≡◌, OnOk, IfErr, IfSome};
 ghost use Rattle.up_model.specs.Chain.{IsChain};
 ghost use Rattle.upipe_run.specs.ChainEnds.{HasEnds};
 ghost use Rattle.upipe_run.specs.ChainRuns.{RanChain, KeepsNonSinks, AsksChain};
-ghost use Rattle.upipe_run.specs.Causes.{IsChainFault, HasLongSource, HasFaultCause};
+ghost use Rattle.upipe_run.specs.Causes.{IsChainFault, HasChainCause, HasFaultCause};
 
 use crate::fault::Fault;
 use crate::path::carry_path;
@@ -50,8 +50,8 @@ pub fn run_chain<D: Depot>(alloc: Global, graph: &Graph, depot: &mut D) -> Resul
     ensures whole { IfSome (D.held depot.old) (λ before.
         OnOk result (RanChain before (D.held depot.new) graph.now.pipes)) }
     ensures fault { IfErr result (IsChainFault graph.now.pipes) }
-    ensures too_long { IfSome (D.held depot.old) (λ before.
-        IfErr result (HasLongSource before graph.now.pipes)) }
+    ensures bytes { IfSome (D.held depot.old) (λ before. IfErr result
+        (HasChainCause before graph.now.pipes (D.asked depot.old) (D.asked depot.new))) }
     ensures others { IfSome (D.held depot.old) (λ before.
         KeepsNonSinks before (D.held depot.new) graph.now.pipes) }
     ensures asked { IfSome (D.asked depot.old) (λ before.
