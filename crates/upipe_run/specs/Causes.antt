@@ -91,7 +91,7 @@ HasBytesCause before path old_asked new_asked ReadGraph = Unit {0}
 HasBytesCause before path old_asked new_asked (Read name) = IsOfGraph before path (λ graph. IsNamed graph.pipes 0 name)
 HasBytesCause before path old_asked new_asked (Write name) =
     IsOfGraph before path (λ graph. IsNamed graph.pipes (length graph.pipes - 1) name
-      × (IsWholeAt before graph.pipes 0 ⊎ EndsRefused old_asked new_asked))
+    × (IsWholeAt before graph.pipes 0 ⊎ EndsRefused old_asked new_asked))
 HasBytesCause before path old_asked new_asked (TooLong name limit) =
     IsOfGraph before path (λ graph. IsLongAt before graph.pipes 0 name limit)
 HasBytesCause before path old_asked new_asked NoMemory = Unit {0}
