@@ -12,7 +12,11 @@ fn hex_digit(digit: u8) -> u8
     requires { digit < 16 }
     ensures { result ≡ hex_digit digit }
 {
-    if digit < 10 { b'0' + digit } else { b'a' - 10 + digit }
+    if digit < 10 {
+        b'0' + digit
+    } else {
+        b'a' - 10 + digit
+    }
 }
 
 /// Whether the byte is printed as it is.
@@ -113,7 +117,8 @@ fn limit_text(alloc: Global, pipe: &[u8], limit: u64) -> Result<Bytes, NoMemory>
 }
 
 /// The words of use.
-const USAGE: &str = "usage: upipe check GRAPH | upipe run [--single] [--pool] GRAPH | upipe work [--single] N";
+const USAGE: &str =
+    "usage: upipe check GRAPH | upipe run [--single] [--pool] GRAPH | upipe work [--single] N";
 
 /// What is told of a fault.
 fn fault_text(alloc: Global, fault: &Fault) -> Result<Bytes, NoMemory>
