@@ -8,6 +8,8 @@ mod fill;
 mod flow;
 mod graph_text;
 mod line;
+#[cfg(test)]
+mod line_tests;
 mod path;
 mod program;
 mod tell;
