@@ -8,8 +8,6 @@ mod fill;
 mod flow;
 mod graph_text;
 mod line;
-#[cfg(test)]
-mod line_tests;
 mod path;
 mod program;
 mod tell;
@@ -18,5 +16,7 @@ mod words;
 
 pub use program::{run, run_single};
 
+#[cfg(test)]
+mod line_tests;
 #[cfg(test)]
 mod tests;

@@ -46,23 +46,34 @@ fn depot_of(alloc: Global, graph: &[u8]) -> Result<MemDepot, Fail> {
     Ok(depot)
 }
 
-/// The status of a run. A whole run prints nothing, and no run leaves anything open.
+/// The status of a run. A whole run prints nothing, every other run a line, and no run leaves anything open.
 fn status_of<R: Abort + Threads + Wait + Sync>(
     rt: &R,
     alloc: Global,
     words: &[&'static str],
     depot: &mut MemDepot,
 ) -> Result<u8, Fail> {
+    let mut err = MemSink::new(alloc);
+    let status = told_status_of(rt, alloc, words, depot, &mut err)?;
+    assert_eq!(rt; err.bytes().is_empty(), status == 0);
+    Ok(status)
+}
+
+/// The status of a run, whose line goes to `err`.
+fn told_status_of<R: Abort + Threads + Wait + Sync>(
+    rt: &R,
+    alloc: Global,
+    words: &[&'static str],
+    depot: &mut MemDepot,
+    err: &mut MemSink,
+) -> Result<u8, Fail> {
     let mut list = WordList::new(alloc);
     for word in words {
         list.push(Text::from_str(alloc, word)?)?;
     }
     let mut out = MemSink::new(alloc);
-    let mut err = MemSink::new(alloc);
-    let status = run(rt, alloc, &list, depot, &mut out, &mut err);
-    if status == 0 {
-        assert!(rt; out.bytes().is_empty() && err.bytes().is_empty());
-    }
+    let status = run(rt, alloc, &list, depot, &mut out, err);
+    assert!(rt; out.bytes().is_empty());
     assert!(rt; depot.asked().iter().all(|entry| entry.mark != Mark::Open));
     Ok(status)
 }
@@ -253,18 +264,90 @@ fn a_single_run_is_the_run_of_its_path(rt: HostRuntime) -> Result<(), Fail> {
     let mut depot = depot_of(alloc, text.as_bytes())?;
     let mut out = MemSink::new(alloc);
     let mut err = MemSink::new(alloc);
-    for (path, status) in [("g.toml", 4), ("missing", 4)] {
+    for path in ["g.toml", "missing"] {
         assert_eq!(rt;
             run_single(alloc, path, false, &mut depot, &mut out, &mut err),
-            status
+            4
         );
     }
+    let told: &[u8] = b"upipe: read fault: pipe in\nupipe: read fault: graph\n";
+    assert_eq!(rt; err.bytes(), told);
     depot.hold("i", b"abc")?;
     assert_eq!(rt;
         run_single(alloc, "g.toml", false, &mut depot, &mut out, &mut err),
         0
     );
     assert_eq!(rt; depot.bytes("o"), Some(b"abc".as_slice()));
-    assert!(rt; out.bytes().is_empty() && err.bytes().is_empty());
+    assert_eq!(rt; err.bytes(), told);
+    Ok(())
+}
+
+/// Graph texts and what a run of each tells, where `i` has eleven bytes.
+const TOLD: [(&str, u8, &str); 9] = [
+    (
+        "version = 1\npipe = [{name = 'in', kind = 'source', path = 'i', limit = 10}, \
+            {name = 'out', kind = 'sink', input = 'in', path = 'o'}]",
+        8,
+        "upipe: too long: pipe in limit 10\n",
+    ),
+    (
+        "version = 1\npipe = [{name = 'capture', kind = 'source', path = 'missing'}, \
+            {name = 'out', kind = 'sink', input = 'capture', path = 'o'}]",
+        4,
+        "upipe: read fault: pipe capture\n",
+    ),
+    (
+        "version = 1\npipe = [{name = 'in', kind = 'source', path = 'i'}, \
+            {name = 'mid', kind = 'sink', input = 'in', path = 'm'}, \
+            {name = 'out', kind = 'sink', input = 'mid', path = 'o'}]",
+        3,
+        "upipe: graph: pipe 2: bad field kind\n",
+    ),
+    (
+        "version = 1\npipe = [{name = 'in', kind = 'source', path = 'i'}, \
+            {name = 'out', kind = 'sink', input = 'x', path = 'o'}]",
+        3,
+        "upipe: graph: pipe 2: bad field input\n",
+    ),
+    ("version = 1", 3, "upipe: graph: no pipes\n"),
+    ("version = 3", 3, "upipe: graph: bad version\n"),
+    ("version", 3, "upipe: graph: not toml\n"),
+    (
+        "version = 1\n'a\\b' = 2\npipe = [{}]",
+        3,
+        "upipe: graph: top: bad field a\\x5cb\n",
+    ),
+    (
+        "version = 1\npipe = [{name = 'in', kind = 'source', path = 'i', '\u{e9}' = 1}]",
+        3,
+        "upipe: graph: pipe 1: bad field kind\n",
+    ),
+];
+
+#[test]
+fn each_status_tells_its_line_and_leaves_the_sink(rt: HostRuntime) -> Result<(), Fail> {
+    let alloc = rt.alloc();
+    for (text, status, line) in TOLD {
+        let mut depot = depot_of(alloc, text.as_bytes())?;
+        depot.hold("i", b"0123456789a")?;
+        let mut err = MemSink::new(alloc);
+        assert_eq!(rt;
+            told_status_of(&rt, alloc, &RUN, &mut depot, &mut err)?,
+            status,
+            "{text}"
+        );
+        assert_eq!(rt; err.bytes(), line.as_bytes(), "{text}");
+        assert_eq!(rt; depot.bytes("o").unwrap_or(b"").len(), 0, "{text}");
+    }
+    let mut depot = MemDepot::new(alloc);
+    let mut err = MemSink::new(alloc);
+    assert_eq!(rt; told_status_of(&rt, alloc, &RUN, &mut depot, &mut err)?, 4);
+    assert_eq!(rt;
+        told_status_of(&rt, alloc, &["walk"], &mut depot, &mut err)?,
+        2
+    );
+    let told: &[u8] =
+        b"upipe: read fault: graph\nusage: upipe check GRAPH | upipe run [--single] [--pool] GRAPH | upipe work [--single] N\n";
+    assert_eq!(rt; err.bytes(), told);
     Ok(())
 }
