@@ -15,8 +15,7 @@ there (p ∷ pipes) (suc place) within = there pipes place (omega arith)
 
 source_puts : (kind : Kind) (own taken : Flow) → IsRawSource kind → put_out kind own taken ≡ own
 source_puts (Source path form limit) own taken is = refl
-source_puts (Sink path form) own taken is = absurd is
-source_puts Idem own taken is = absurd is
+source_puts kind own taken is = absurd is
 
 -- each pipe of a chain but its sink puts out the source's flow
 chain_flow : (pipes : List Pipe) (given : ℕ → Flow) (place steps : ℕ) → IsChain pipes → place + 1 < length pipes → place < steps

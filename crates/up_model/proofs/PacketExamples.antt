@@ -1,7 +1,8 @@
 -- Worked examples of the bytes of packets and the sizes of values, computed.
 use Rattle.std.proofs.Common.{◌≡◌, ◌-◌, ◌^◌, [], ◌∷◌, map, true, refl}
 use Rattle.std.specs.Prelude.{codes}
-use Rattle.up_model.specs.Packet.{joined, plain, value_size}
+use Rattle.up_model.specs.Packet.{joined, plain}
+use Rattle.up_model.specs.Value.{value_size}
 use Rattle.up_model.specs.declared.value.Value.TheVariants.{Void, Flag, Unsigned, Words, Opaque}
 
 -- an empty packet adds no byte

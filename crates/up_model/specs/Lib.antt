@@ -1,6 +1,13 @@
+pub mod Attrs
 pub mod Branch
 pub mod Chain
 pub mod Cutting
+pub mod Kinds
 pub mod Meaning
+pub mod Null
+pub mod Options
 pub mod Outcomes
 pub mod Packet
+pub mod Skip
+pub mod Tallies
+pub mod Value

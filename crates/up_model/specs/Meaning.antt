@@ -1,16 +1,11 @@
 -- What each pipe of a graph puts out, and what each sink is to hold. The recursion follows inputs back to a source.
 use Rattle.std.specs.Prelude.{ℕ, zero, suc, List, [], length, slice_get, Option, Some, None}
+use Rattle.up_model.specs.Kinds.{output_of}
 use Rattle.up_model.specs.Packet.{joined}
 use Rattle.up_model.specs.declared.kind.Kind.{Kind}
-use Rattle.up_model.specs.declared.kind.Kind.TheVariants.{Source, Sink, Idem}
+use Rattle.up_model.specs.declared.kind.Kind.TheVariants.{Source}
 use Rattle.up_model.specs.declared.pipe.Pipe.{Pipe}
 pub use Rattle.up_model.specs.Packet.{Flow}
-
--- the function of a kind: what it puts out for what it takes; a sink has no output
-abbrev pub output_of : Kind → Flow → Flow
-output_of (Source path form limit) taken = []
-output_of (Sink path form) taken = []
-output_of Idem taken = taken
 
 -- a source puts out the flow that it is given, any other pipe its kind's function of what it takes
 abbrev pub put_out : Kind → Flow → Flow → Flow

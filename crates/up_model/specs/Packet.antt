@@ -5,16 +5,9 @@ use Rattle.std.specs.Ordering.{nat_cmp}
 use Rattle.std.specs.Cmp.Lexicographic.{slice_cmp}
 use Rattle.std.specs.FinMap.{FinMap, empty, keys, values as values_of, len}
 use Rattle.up_base.specs.Name.{is_name}
-use Rattle.up_model.specs.declared.value.Value.{Value}
-use Rattle.up_model.specs.declared.value.Value.TheVariants.{Void, Flag, Unsigned, Words, Opaque}
-
--- attributes, by their names in byte order
-abbrev pub Attrs : Type 0
-Attrs = FinMap (slice_cmp nat_cmp) Value
-
-pub record PlainPacket : Type 0 where
-  pub attrs : Attrs
-  pub bytes : List ℕ
+use Rattle.up_model.specs.Value.{value_size}
+pub use Rattle.up_model.specs.Attrs.{Attrs}
+pub use Rattle.up_model.specs.declared.plain_packet.PlainPacket.{PlainPacket}
 
 -- packets in order
 abbrev pub Flow : Type 0
@@ -23,14 +16,6 @@ Flow = List PlainPacket
 -- a packet without attributes
 abbrev pub plain : List ℕ → PlainPacket
 plain bytes = record { attrs = empty; bytes = bytes }
-
--- the bytes of a text or opaque value
-abbrev pub value_size : Value → ℕ
-value_size Void = 0
-value_size (Flag flag) = 0
-value_size (Unsigned number) = 0
-value_size (Words text) = length text
-value_size (Opaque bytes) = length bytes
 
 -- at most 64 attributes, their names are names, their values at most 4,096 bytes, and at most 1,048,576 bytes
 pub record IsLegal (packet : PlainPacket) : Type 0 where

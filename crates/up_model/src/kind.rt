@@ -17,4 +17,12 @@ pub enum Kind {
     },
     /// Passes on what it takes.
     Idem,
+    /// Takes all and puts nothing out.
+    Null,
+    /// Passes on what it takes to each of its consumers.
+    Dup,
+    /// Takes the first `bytes` bytes off each packet, at most 1,048,576, and drops a packet that has fewer.
+    Skip {
+        bytes: u32,
+    },
 }

@@ -1,4 +1,4 @@
-use crate::{Outcome, Pipe, Tally};
+use crate::{Outcome, Pipe, PlainPacket, Tally};
 use up_base::{Bytes, ItemList};
 
 /// The pipes of a graph, in the order of its file.
@@ -15,3 +15,6 @@ pub type OutcomeList = ItemList<Outcome>;
 
 /// The bytes that each pipe's source could give: one entry a pipe, empty for one that is no source.
 pub type GivenBytes = ItemList<Bytes>;
+
+/// Packets in order.
+pub type PacketList = ItemList<PlainPacket>;

@@ -1,3 +1,5 @@
+ghost use Rattle.std.specs.Prelude.{◌≡◌};
+
 /// What a pipe did over a run, in six sums, each of which stops at 2^64 - 1.
 #[derive(Clone, Copy, Debug, Default, PartialEq, Eq)]
 pub struct Tally {
@@ -13,4 +15,50 @@ pub struct Tally {
     pub gained: u64,
     /// How often it lost its synchronisation.
     pub lost: u64,
+}
+
+impl Tally {
+    ghost use Rattle.up_model.specs.Tallies.{plus, bounded, of_passed, of_dropped};
+
+    /// That of one packet that was taken and put out, less so many bytes.
+    pub fn of_passed(cut: u64) -> Tally
+        ensures { result ≡ of_passed cut }
+    {
+        Tally {
+            taken: 1,
+            put: 1,
+            dropped: 0,
+            cut,
+            gained: 0,
+            lost: 0,
+        }
+    }
+
+    /// That of one packet of so many bytes that was taken and dropped.
+    pub fn of_dropped(bytes: u64) -> Tally
+        ensures { result ≡ of_dropped bytes }
+    {
+        Tally {
+            taken: 1,
+            put: 0,
+            dropped: 1,
+            cut: bytes,
+            gained: 0,
+            lost: 0,
+        }
+    }
+
+    /// Both sums together, each of which stops at 2^64 - 1.
+    pub fn plus(self, more: Tally) -> Tally
+        ensures { result ≡ bounded (plus self more) }
+    {
+        Tally {
+            taken: self.taken.saturating_add(more.taken),
+            put: self.put.saturating_add(more.put),
+            dropped: self.dropped.saturating_add(more.dropped),
+            cut: self.cut.saturating_add(more.cut),
+            gained: self.gained.saturating_add(more.gained),
+            lost: self.lost.saturating_add(more.lost),
+        }
+    }
 }

@@ -1,3 +1,5 @@
+ghost use Rattle.std.specs.Prelude.{◌≡◌};
+
 use up_base::{Bytes, Text};
 
 /// The value of an attribute of a packet.
@@ -10,4 +12,31 @@ pub enum Value {
     Words(Text),
     /// At most 4,096 bytes.
     Opaque(Bytes),
+}
+
+/// A value of an attribute, as its holder lends it.
+#[derive(Clone, Copy, Debug)]
+pub enum ValueView<'a> {
+    Void,
+    Flag(bool),
+    Unsigned(u64),
+    Words(&'a str),
+    Opaque(&'a [u8]),
+}
+
+impl Value {
+    ghost use Rattle.up_model.specs.Value.{seen};
+
+    /// The value, lent.
+    pub fn view(&self) -> ValueView<'_>
+        ensures { seen result ≡ self.now }
+    {
+        match self {
+            Value::Void => ValueView::Void,
+            Value::Flag(flag) => ValueView::Flag(*flag),
+            Value::Unsigned(number) => ValueView::Unsigned(*number),
+            Value::Words(text) => ValueView::Words(text.as_str()),
+            Value::Opaque(bytes) => ValueView::Opaque(bytes.as_slice()),
+        }
+    }
 }

@@ -1,0 +1,53 @@
+-- Sums of what a pipe did. Here they have no bound; where they are kept, each stops at 2^64 - 1.
+use Rattle.std.specs.Prelude.{ℕ, ◌+◌, ◌-◌, ◌^◌, min, length}
+use Rattle.up_model.specs.Packet.{Flow}
+use Rattle.up_model.specs.declared.tally.Tally.{Tally}
+
+-- nothing was done
+abbrev pub nothing : Tally
+nothing = record { taken = 0; put = 0; dropped = 0; cut = 0; gained = 0; lost = 0 }
+
+-- the one and then the other
+abbrev pub plus : Tally → Tally → Tally
+plus a b = record {
+  taken = a.taken + b.taken;
+  put = a.put + b.put;
+  dropped = a.dropped + b.dropped;
+  cut = a.cut + b.cut;
+  gained = a.gained + b.gained;
+  lost = a.lost + b.lost;
+}
+
+-- a sum as it is kept
+abbrev pub kept : ℕ → ℕ
+kept sum = min sum (2 ^ 64 - 1)
+
+-- six sums as they are kept
+abbrev pub bounded : Tally → Tally
+bounded tally = record {
+  taken = kept tally.taken;
+  put = kept tally.put;
+  dropped = kept tally.dropped;
+  cut = kept tally.cut;
+  gained = kept tally.gained;
+  lost = kept tally.lost;
+}
+
+-- these packets were taken and these put out, so many were dropped, and so many bytes cut
+abbrev pub counted : Flow → Flow → ℕ → ℕ → Tally
+counted taken put dropped cut = record {
+  taken = length taken;
+  put = length put;
+  dropped = dropped;
+  cut = cut;
+  gained = 0;
+  lost = 0;
+}
+
+-- one packet was taken and put out, less so many bytes
+abbrev pub of_passed : ℕ → Tally
+of_passed bytes = record { taken = 1; put = 1; dropped = 0; cut = bytes; gained = 0; lost = 0 }
+
+-- one packet of so many bytes was taken and dropped
+abbrev pub of_dropped : ℕ → Tally
+of_dropped bytes = record { taken = 1; put = 0; dropped = 1; cut = bytes; gained = 0; lost = 0 }
