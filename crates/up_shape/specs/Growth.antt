@@ -1,0 +1,28 @@
+-- What a module puts into an outbox, tied to what is settled of its flow.
+use Rattle.std.specs.Prelude.{◌≡◌, List, ◌++◌, map, All}
+use Rattle.up_model.specs.Kinds.{Work}
+use Rattle.up_model.specs.Packet.{Flow}
+use Rattle.up_model.specs.declared.plain_packet.PlainPacket.{PlainPacket}
+use Rattle.up_model.specs.Tallies.{plus, bounded}
+use Rattle.up_model.specs.declared.tally.Tally.{Tally}
+use Rattle.up_shape.specs.Outgoing.{Outgoing}
+
+-- the outbox grew by what the work grew by, in packets and in sums
+pub record Grew {P : Type 0} (plain : P → PlainPacket) (old new : Outgoing P) (before after : Work) : Type 0 where
+  pub added : List P
+  pub counted : Tally
+  pub packets : new.packets ≡ old.packets ++ added
+  pub tally : new.tally ≡ bounded (plus old.tally counted)
+  pub flow : after.flow ≡ before.flow ++ map plain added
+  pub sums : after.tally ≡ plus before.tally counted
+
+-- the packets by which the outbox grew are the first of those by which the work would have grown
+pub record GrewInPart {P : Type 0} (plain : P → PlainPacket) (old new : Outgoing P) (before after : Work) : Type 0 where
+  pub added : List P
+  pub lacking : Flow
+  pub packets : new.packets ≡ old.packets ++ added
+  pub flow : after.flow ≡ before.flow ++ map plain added ++ lacking
+
+-- a module and these packets are of the family
+abbrev pub AreOf : {P F : Type 0} → (P → F → Type 0) → (F → Type 0) → List P → F → Type 0
+AreOf fits agrees packets family = agrees family × All (λ packet. fits packet family) packets

@@ -1,0 +1,5 @@
+pub mod Bytes
+pub mod Control
+pub mod Growth
+pub mod Outgoing
+pub mod Stores

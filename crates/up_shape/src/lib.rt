@@ -1,0 +1,16 @@
+//! The interface that every kind of pipe is built on: packets and the stores that their memory comes from, outboxes,
+//! and modules with their laws.
+#![tactic(auto)]
+
+mod control;
+mod module;
+mod outbox;
+mod packet;
+mod stash;
+
+pub use control::{Command, ControlRefused, Reply};
+pub use module::Module;
+pub use outbox::Outbox;
+pub use packet::Packet;
+pub use stash::Stash;
+pub use up_model::Opt;
