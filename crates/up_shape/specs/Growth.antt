@@ -3,25 +3,25 @@ use Rattle.std.specs.Prelude.{◌≡◌, List, ◌++◌, map, All}
 use Rattle.up_model.specs.Kinds.{Work}
 use Rattle.up_model.specs.Packet.{Flow}
 use Rattle.up_model.specs.declared.plain_packet.PlainPacket.{PlainPacket}
-use Rattle.up_model.specs.Tallies.{plus, bounded}
+use Rattle.up_model.specs.Tallies.{plus, added}
 use Rattle.up_model.specs.declared.tally.Tally.{Tally}
 use Rattle.up_shape.specs.Outgoing.{Outgoing}
 
 -- the outbox grew by what the work grew by, in packets and in sums
 pub record Grew {P : Type 0} (plain : P → PlainPacket) (old new : Outgoing P) (before after : Work) : Type 0 where
-  pub added : List P
+  pub given : List P
   pub counted : Tally
-  pub packets : new.packets ≡ old.packets ++ added
-  pub tally : new.tally ≡ bounded (plus old.tally counted)
-  pub flow : after.flow ≡ before.flow ++ map plain added
+  pub packets : new.packets ≡ old.packets ++ given
+  pub tally : new.tally ≡ added old.tally counted
+  pub flow : after.flow ≡ before.flow ++ map plain given
   pub sums : after.tally ≡ plus before.tally counted
 
 -- the packets by which the outbox grew are the first of those by which the work would have grown
 pub record GrewInPart {P : Type 0} (plain : P → PlainPacket) (old new : Outgoing P) (before after : Work) : Type 0 where
-  pub added : List P
+  pub given : List P
   pub lacking : Flow
-  pub packets : new.packets ≡ old.packets ++ added
-  pub flow : after.flow ≡ before.flow ++ map plain added ++ lacking
+  pub packets : new.packets ≡ old.packets ++ given
+  pub flow : after.flow ≡ before.flow ++ map plain given ++ lacking
 
 -- a module and these packets are of the family
 abbrev pub AreOf : {P F : Type 0} → (P → F → Type 0) → (F → Type 0) → List P → F → Type 0

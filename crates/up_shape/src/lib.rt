@@ -3,14 +3,18 @@
 #![tactic(auto)]
 
 mod control;
+mod flow;
+mod local_packet;
 mod module;
 mod outbox;
 mod packet;
 mod stash;
 
 pub use control::{Command, ControlRefused, Reply};
+pub use flow::{feed_all, give_up_all, run_flow};
+pub use local_packet::LocalPacket;
 pub use module::Module;
-pub use outbox::Outbox;
+pub use outbox::{Outbox, put_out};
 pub use packet::Packet;
 pub use stash::Stash;
 pub use up_model::Opt;

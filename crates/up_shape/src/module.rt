@@ -6,12 +6,12 @@ ghost use Rattle.up_shape.specs.Control.{answer_to, kind_after, Sets};
 ghost use Rattle.up_shape.specs.Growth.{AreOf, Grew, GrewInPart};
 ghost use Rattle.up_shape.specs.Stores.{Stays};
 
-use crate::{Command, ControlRefused, Outbox, Packet, Reply};
+use crate::{Command, ControlRefused, LocalPacket, Outbox, Reply};
 use up_base::NoMemory;
 
 /// What a kind of pipe does with a flow, fed a packet at a time. It keeps no list of what it was fed: contracts speak of
 /// every flow for which it may stand.
-pub trait Module<P: Packet>: Sized {
+pub trait Module<P: LocalPacket>: Sized {
     /// The kind, with its options.
     ghost kind: { Self → Kind };
 
@@ -25,7 +25,8 @@ pub trait Module<P: Packet>: Sized {
     /// packet is given up, and only `give_up` may follow.
     fn feed(&mut self, p: P, out: &mut Outbox<P>, s: &mut P::Store) -> Result<(), NoMemory>
         requires legal { IsLegal (P.plain p) }
-        requires family { AreOf P.fits (agrees self.old) (p ∷ out.old.packets) (P.Store.family s.old) }
+        requires packet { P.fits p (P.Store.family s.old) }
+        requires family { AreOf P.fits (agrees self.old) out.old.packets (P.Store.family s.old) }
         ensures stands { (fed : Flow) → stands self.old fed
             → OnOk result (stands self.new (fed ++ P.plain p ∷ [])) }
         ensures grew { (fed : Flow) → stands self.old fed

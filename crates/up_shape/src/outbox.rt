@@ -1,9 +1,11 @@
-ghost use Rattle.std.specs.Prelude.{◌≡◌, [], ◌∷◌, ◌++◌, length, OnOk, OnErr, IfErr, MatchOption};
-ghost use Rattle.up_model.specs.Tallies.{nothing, plus, bounded};
+ghost use Rattle.std.specs.Prelude.{◌≡◌, [], ◌∷◌, ◌++◌, length, All, OnOk, OnErr, IfErr, MatchOption};
+ghost use Rattle.up_model.specs.Tallies.{nothing, added};
+ghost use Rattle.up_shape.specs.Stores.{Stays};
 
+use crate::LocalPacket;
 use std::alloc::Global;
 use std::marker::Model;
-use up_base::{ItemList, NoRoom};
+use up_base::{ItemList, NoMemory, NoRoom};
 use up_model::Tally;
 
 /// The packets that a module has put out, first in, first out, and what it has counted. It can't be dropped: `end` gives
@@ -71,7 +73,7 @@ impl<P> Outbox<P> {
 
     /// Adds to what was counted. Each sum stops at 2^64 - 1.
     pub fn add_tally(&mut self, t: Tally)
-        ensures tally { self.new.tally ≡ bounded (plus self.old.tally t) }
+        ensures tally { self.new.tally ≡ added self.old.tally t }
         ensures packets { self.new.packets ≡ self.old.packets }
     {
         self.tally = self.tally.plus(t);
@@ -91,5 +93,24 @@ impl<P> Outbox<P> {
     {
         let Outbox { packets, tally: _ } = self;
         packets.end();
+    }
+}
+
+/// Puts the packet out. Where there is no room it is given up.
+pub fn put_out<P: LocalPacket>(p: P, out: &mut Outbox<P>, s: &mut P::Store) -> Result<(), NoMemory>
+    requires family { P.fits p (P.Store.family s.old) }
+    ensures added { OnOk result (out.new.packets ≡ out.old.packets ++ p ∷ []) }
+    ensures unchanged { OnErr result (out.new.packets ≡ out.old.packets) }
+    ensures tally { out.new.tally ≡ out.old.tally }
+    ensures family { All (λ q. P.fits q (P.Store.family s.old)) out.old.packets
+        → All (λ q. P.fits q (P.Store.family s.old)) out.new.packets }
+    ensures store { Stays P.Store.family P.Store.kept P.Store.drawn s.old s.new }
+{
+    match out.put(p) {
+        Ok(()) => Ok(()),
+        Err(NoRoom { back }) => {
+            back.give_up(s);
+            Err(NoMemory)
+        }
     }
 }

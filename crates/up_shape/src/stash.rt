@@ -5,7 +5,7 @@ ghost use Rattle.up_shape.specs.Stores.{Stays};
 /// them.
 pub trait Stash: Sized {
     /// Plain data by which contracts tell families apart.
-    type Family: Drop + Send;
+    type Family: Drop;
 
     /// The family, which no call changes.
     ghost family: { Self → Self.Family };

@@ -1,0 +1,3 @@
+pub mod DupPipe
+pub mod Idem
+pub mod NullPipe

@@ -1,0 +1,10 @@
+//! Kinds of pipe that take each packet as a whole.
+#![tactic(auto)]
+
+mod dup_pipe;
+mod idem;
+mod null_pipe;
+
+pub use dup_pipe::DupPipe;
+pub use idem::Idem;
+pub use null_pipe::NullPipe;

@@ -1,0 +1,72 @@
+-- What a module puts into an outbox in one call.
+use Rattle.std.proofs.Common.{◌≡◌, List, [], ◌∷◌, ◌++◌, map, refl, sym, ap, ◌∙◌, append-nil, append_assoc, arith}
+use Rattle.std.proofs.lemmas.List.{map-append}
+use Rattle.up_model.specs.Kinds.{Work}
+use Rattle.up_model.specs.Tallies.{plus, added, nothing}
+use Rattle.up_model.specs.declared.plain_packet.PlainPacket.{PlainPacket}
+use Rattle.up_model.specs.declared.tally.Tally.{Tally}
+use Rattle.up_shape.specs.Growth.{Grew, GrewInPart}
+use Rattle.up_shape.specs.Outgoing.{Outgoing}
+
+module _ {P : Type 0} (plain : P → PlainPacket) (old new : Outgoing P) (before after : Work) where
+  -- one packet was put out, and so much counted
+  pub puts_one : (packet : P) (counted : Tally)
+      → new.packets ≡ old.packets ++ packet ∷ [] → new.tally ≡ added old.tally counted
+      → after.flow ≡ before.flow ++ plain packet ∷ [] → after.tally ≡ plus before.tally counted → Grew plain old new before after
+  puts_one packet counted packets tally flow sums =
+      record { given = packet ∷ []; counted = counted; packets = packets; tally = tally; flow = flow; sums = sums }
+
+  -- no packet was put out, and so much counted
+  pub puts_none : (counted : Tally) → new.packets ≡ old.packets → new.tally ≡ added old.tally counted
+      → after.flow ≡ before.flow → after.tally ≡ plus before.tally counted → Grew plain old new before after
+  puts_none counted packets tally flow sums = record {
+    given = [];
+    counted = counted;
+    packets = packets ∙ sym (append-nil old.packets);
+    tally = tally;
+    flow = flow ∙ sym (append-nil before.flow);
+    sums = sums;
+  }
+
+  -- no packet was put out, where the work would have grown by some
+  pub puts_nothing : (rest : List PlainPacket) → new.packets ≡ old.packets
+      → after.flow ≡ before.flow ++ rest → GrewInPart plain old new before after
+  puts_nothing rest packets flow = record {
+    given = [];
+    lacking = rest;
+    packets = packets ∙ sym (append-nil old.packets);
+    flow = flow ∙ ap (λ front. front ++ rest) (sym (append-nil before.flow));
+  }
+
+-- to add nothing changes nothing
+added_nothing : (tally : Tally) → added tally nothing ≡ tally
+added_nothing tally = grind arith
+
+plus_nothing : (tally : Tally) → plus tally nothing ≡ tally
+plus_nothing tally = grind arith
+
+-- where the work is done, nothing is put out and nothing counted
+pub owes_nothing : {P : Type 0} (plain : P → PlainPacket) (outbox : Outgoing P) (work : Work) → Grew plain outbox outbox work work
+owes_nothing plain outbox work =
+    puts_none plain outbox outbox work work nothing refl (sym (added_nothing outbox.tally)) refl (sym (plus_nothing work.tally))
+
+-- to add to sums one after the other is to add both together
+added-added : (sums a b : Tally) → added (added sums a) b ≡ added sums (plus a b)
+added-added sums a b = grind arith
+
+plus-plus : (sums a b : Tally) → plus (plus sums a) b ≡ plus sums (plus a b)
+plus-plus sums a b = grind arith
+
+-- what grew, and then grew again, grew
+pub Grew-trans : {P : Type 0} (plain : P → PlainPacket) (a b c : Outgoing P) (x y z : Work)
+    → Grew plain a b x y → Grew plain b c y z → Grew plain a c x z
+Grew-trans plain a b c x y z one two = record {
+  given = one.given ++ two.given;
+  counted = plus one.counted two.counted;
+  packets = two.packets ∙ ap (λ front. front ++ two.given) one.packets ∙ append_assoc a.packets one.given two.given;
+  tally = two.tally ∙ ap (λ sums. added sums two.counted) one.tally ∙ added-added a.tally one.counted two.counted;
+  flow =
+      two.flow ∙ ap (λ front. front ++ map plain two.given) one.flow ∙ append_assoc x.flow (map plain one.given) (map plain two.given)
+      ∙ ap (λ more. x.flow ++ more) (sym (map-append plain one.given two.given));
+  sums = two.sums ∙ ap (λ sums. plus sums two.counted) one.sums ∙ plus-plus x.tally one.counted two.counted;
+}

@@ -1,0 +1,16 @@
+use Rattle.std.proofs.Common.{[], map, subst}
+use Rattle.std.proofs.lemmas.Result.{on_ok_weaker}
+use Rattle.up_model.specs.Kinds.{settled_work, work_of}
+use Rattle.up_model.specs.declared.kind.Kind.{Kind}
+use Rattle.up_shape.proofs.Growths.{Grew-trans}
+use Rattle.up_shape.specs.Growth.{Grew}
+use Rattle.up_shape.proofs.flow.run_flow.Goals as goal
+
+pub returns-in-Ok-clause-grew : goal.returns-in-Ok-clause-grew
+returns-in-Ok-clause-grew g c =
+    let plain = g.P.LocalPacket.plain in
+    let flow = map plain c.args.flow in
+    let of_kind : Kind → Type 0 = λ kind. Grew plain c.feed_all.new.out c.finish.new.out (settled_work kind flow) (work_of kind flow) in
+    on_ok_weaker c.finish.result
+    (λ ended. Grew-trans plain _ _ _ _ _ _ (c.in-Ok.ensures.grew [] c.requires.fresh) (subst of_kind c.in-Ok.ensures.kind ended))
+    (c.finish.ensures.grew flow (c.in-Ok.ensures.stands [] c.requires.fresh))

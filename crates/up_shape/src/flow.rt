@@ -1,0 +1,78 @@
+// Whole flows, fed to a module.
+ghost use Rattle.std.specs.Prelude.{◌≡◌, ◌++◌, [], All, map, OnOk};
+ghost use Rattle.up_model.specs.Kinds.{work_of, settled_work};
+ghost use Rattle.up_model.specs.Packet.{Flow, IsLegal};
+ghost use Rattle.up_shape.specs.Growth.{AreOf, Grew};
+ghost use Rattle.up_shape.specs.Stores.{Stays};
+
+use crate::{LocalPacket, Module, Outbox};
+use up_base::{ItemList, NoMemory};
+
+/// Gives up all packets.
+pub fn give_up_all<P: LocalPacket>(mut packets: ItemList<P>, s: &mut P::Store)
+    requires family { All (λ p. P.fits p (P.Store.family s.old)) packets }
+    ensures store { Stays P.Store.family P.Store.kept P.Store.drawn s.old s.new }
+{
+    while let Some(p) = packets.next() {
+        p.give_up(s);
+    }
+    packets.end();
+}
+
+/// Feeds the packets to the module, in order. After `NoMemory` those that weren't fed are given up.
+pub fn feed_all<P: LocalPacket, M: Module<P>>(
+    m: &mut M,
+    mut flow: ItemList<P>,
+    out: &mut Outbox<P>,
+    s: &mut P::Store,
+) -> Result<(), NoMemory>
+    requires legal { All (λ p. IsLegal (P.plain p)) flow }
+    requires packets { All (λ p. P.fits p (P.Store.family s.old)) flow }
+    requires family { AreOf P.fits (M.agrees m.old) out.old.packets (P.Store.family s.old) }
+    ensures stands { (fed : Flow) → M.stands m.old fed
+        → OnOk result (M.stands m.new (fed ++ map P.plain flow)) }
+    ensures grew { (fed : Flow) → M.stands m.old fed
+        → OnOk result (Grew P.plain out.old out.new (settled_work (M.kind m.old) fed)
+        (settled_work (M.kind m.old) (fed ++ map P.plain flow))) }
+    ensures kind { M.kind m.new ≡ M.kind m.old }
+    ensures family { AreOf P.fits (M.agrees m.new) out.new.packets (P.Store.family s.old) }
+    ensures store { Stays P.Store.family P.Store.kept P.Store.drawn s.old s.new }
+{
+    while let Some(p) = flow.next() {
+        match m.feed(p, out, s) {
+            Ok(()) => {}
+            Err(NoMemory) => {
+                give_up_all(flow, s);
+                return Err(NoMemory);
+            }
+        }
+    }
+    flow.end();
+    Ok(())
+}
+
+/// Feeds a whole flow to a module that was fed nothing, and ends it: what the module puts out and counts is the work of
+/// its kind on this flow.
+pub fn run_flow<P: LocalPacket, M: Module<P>>(
+    mut m: M,
+    flow: ItemList<P>,
+    out: &mut Outbox<P>,
+    s: &mut P::Store,
+) -> Result<(), NoMemory>
+    requires fresh { M.stands m [] }
+    requires legal { All (λ p. IsLegal (P.plain p)) flow }
+    requires packets { All (λ p. P.fits p (P.Store.family s.old)) flow }
+    requires family { AreOf P.fits (M.agrees m) out.old.packets (P.Store.family s.old) }
+    ensures grew { OnOk result (Grew P.plain out.old out.new
+        (settled_work (M.kind m) []) (work_of (M.kind m) (map P.plain flow))) }
+    ensures family { All (λ p. P.fits p (P.Store.family s.old)) out.new.packets }
+    ensures store { Stays P.Store.family P.Store.kept P.Store.drawn s.old s.new }
+{
+    match feed_all(&mut m, flow, out, s) {
+        Ok(()) => m.finish(out, s),
+        Err(NoMemory) => {
+            m.give_up(s);
+            Err(NoMemory)
+        }
+    }
+}
