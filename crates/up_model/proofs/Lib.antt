@@ -1,3 +1,4 @@
+pub mod AttrLists
 pub mod BranchExamples
 pub mod Chains
 pub mod Cuts
@@ -6,3 +7,4 @@ pub mod ExampleChain
 pub mod MeaningExamples
 pub mod OutcomeExamples
 pub mod PacketExamples
+pub mod SortedEntries
