@@ -1,5 +1,5 @@
 -- Lists of attributes whose names rise, and the maps that they stand for.
-use Rattle.std.proofs.Common.{◌≡◌, ℕ, ◌<◌, ◌≤◌, List, [], length, get_or, set, Bool, true, false, not, T, Option, Some, None, Ordering, Less, Equal, Greater, slice_get, is_some, refl, sym, ap, ◌∙◌, subst, arith, cond}
+use Rattle.std.proofs.Common.{◌≡◌, ℕ, ◌<◌, ◌≤◌, List, [], length, get_or, set, Bool, true, false, not, T, Option, Some, None, Ordering, Less, Equal, Greater, slice_get, is_some, refl, sym, ap, ◌∙◌, subst, cond}
 use Rattle.std.specs.Ordering.{nat_cmp, eq_by_cmp, is_eq, ordering_index}
 use Rattle.std.specs.Cmp.{eq_by_cmp_equiv, alike_right}
 use Rattle.std.specs.Cmp.Lexicographic.{slice_cmp, nat_list_cmp_total}
@@ -51,10 +51,10 @@ is_put list new name value order is =
     record {
       order = ordered;
       is =
-        same_entries_map _ _
-        (entries-from_sorted by_name new ordered
-        ∙ is
-        ∙ sym (entries-insert nat_list_cmp_total (attrs_of list) name value ∙ ap (put by_name name value) (entries-from_sorted by_name list order)));
+          same_entries_map _ _
+          (entries-from_sorted by_name new ordered
+          ∙ is
+          ∙ sym (entries-insert nat_list_cmp_total (attrs_of list) name value ∙ ap (put by_name name value) (entries-from_sorted by_name list order)));
     }
 
 -- the list with another value at the name's place
@@ -96,14 +96,14 @@ without list new name order is =
     record {
       order = ordered;
       is =
-        same_map nat_list_cmp_total (slice_cmp-IsAntisymmetric nat_cmp-IsAntisymmetric) _ _
-        (λ q. get-from_sorted by_name new q ordered
-        ∙ ap (find by_name q) is
-        ∙ find-where_key by_name kept q (λ x tied. ap (λ r. not (is_eq r)) (sym (alike_right nat_list_cmp_total q x name tied))) list
-        ∙ flipped (eq_by_cmp by_name name q) (find by_name q list)
-        ∙ ap (λ b. cond b None (find by_name q list)) ((eq_by_cmp_equiv nat_list_cmp_total).symm name q)
-        ∙ ap (cond (eq_by_cmp by_name q name) None) (sym (get-from_sorted by_name list q order))
-        ∙ sym (get-remove nat_list_cmp_total (attrs_of list) name q));
+          same_map nat_list_cmp_total (slice_cmp-IsAntisymmetric nat_cmp-IsAntisymmetric) _ _
+          (λ q. get-from_sorted by_name new q ordered
+          ∙ ap (find by_name q) is
+          ∙ find-where_key by_name kept q (λ x tied. ap (λ r. not (is_eq r)) (sym (alike_right nat_list_cmp_total q x name tied))) list
+          ∙ flipped (eq_by_cmp by_name name q) (find by_name q list)
+          ∙ ap (λ b. cond b None (find by_name q list)) ((eq_by_cmp_equiv nat_list_cmp_total).symm name q)
+          ∙ ap (cond (eq_by_cmp by_name q name) None) (sym (get-from_sorted by_name list q order))
+          ∙ sym (get-remove nat_list_cmp_total (attrs_of list) name q));
     }
   where
     flipped : {X : Type 0} (b : Bool) (found : Option X) → cond (not b) found None ≡ cond b None found

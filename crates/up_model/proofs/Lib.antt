@@ -5,6 +5,14 @@ pub mod Cuts
 pub mod CuttingExamples
 pub mod ExampleChain
 pub mod MeaningExamples
+pub mod NullExamples
+pub mod OptionExamples
 pub mod OutcomeExamples
+pub mod Outputs
 pub mod PacketExamples
+pub mod SkipExamples
+pub mod Skips
 pub mod SortedEntries
+pub mod Steps
+pub mod TallyExamples
+pub mod ValueExamples

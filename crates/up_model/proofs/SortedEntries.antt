@@ -1,7 +1,7 @@
 -- Searches in a list of entries whose keys rise, and edits of it.
-use Rattle.std.proofs.Common.{◌≡◌, ℕ, zero, suc, ◌+◌, ◌<◌, ◌≤◌, List, [], ◌∷◌, length, get_or, set, Bool, true, false, cond, not, ◌&&◌, T, Option, Some, None, Ordering, Less, Equal, Greater, inl, inr, refl, sym, ap, ◌∙◌, subst, arith, add-one}
+use Rattle.std.proofs.Common.{◌≡◌, ℕ, zero, suc, ◌+◌, ◌<◌, ◌≤◌, List, [], ◌∷◌, length, get_or, set, Bool, true, false, cond, not, ◌&&◌, T, Some, None, Ordering, Less, Equal, Greater, inl, inr, refl, sym, ap, ◌∙◌, arith, add-one}
 use Rattle.std.specs.Ordering.{is_eq, is_lt, ordering_reverse, eq_by_cmp, ordering_index}
-use Rattle.std.specs.Cmp.{IsTotalOrder, tied_back, alike_right}
+use Rattle.std.specs.Cmp.{IsTotalOrder, alike_right}
 use Rattle.std.specs.FinMap.Entries.{find, put, where_key, below_all, is_sorted, by_order}
 use Rattle.std.specs.List.{insert, remove, HoldsAt, AllWithin}
 use Rattle.std.specs.List.Sorted.{IsSortedBy, IsNonDecreasingBy, IsPartitionPoint}

@@ -1,6 +1,5 @@
-use Rattle.std.proofs.Common.{◌<◌, length, rules}
 use Rattle.up_model.specs.Value.{seen}
-use Rattle.up_model.proofs.AttrLists.{IsAt, IsGap, gap, get-there, get-missing}
+use Rattle.up_model.proofs.AttrLists.{gap, get-there, get-missing}
 use Rattle.up_model.proofs.plain_attrs.PlainAttrs.get.Goals as goal
 
 pub returns-in-Ok : goal.returns-in-Ok

@@ -1,4 +1,4 @@
-use Rattle.std.proofs.Common.{◌≡◌, length, vec_len, sym, ◌∙◌, rules}
+use Rattle.std.proofs.Common.{◌≡◌, length, sym, ◌∙◌, rules}
 use Rattle.up_model.proofs.AttrLists.{len-list}
 use Rattle.up_model.proofs.plain_attrs.PlainAttrs.len.Goals as goal
 

@@ -1,4 +1,4 @@
-use Rattle.std.proofs.Common.{◌≡◌, ◌<◌, length, sym, ap, is_some}
+use Rattle.std.proofs.Common.{sym, ap, is_some}
 use Rattle.up_model.proofs.AttrLists.{gap, remove-there, remove-missing, contains-there, get-missing}
 use Rattle.up_model.proofs.plain_attrs.PlainAttrs.remove.Goals as goal
 

@@ -1,5 +1,5 @@
-use Rattle.std.proofs.Common.{◌≡◌, ◌<◌, ◌≤◌, length, true, sym, ap, is_some}
-use Rattle.up_model.proofs.AttrLists.{StandsFor, attrs_of, IsAt, IsGap, gap, set-there, set-missing, contains-there, get-missing}
+use Rattle.std.proofs.Common.{sym, ap, is_some}
+use Rattle.up_model.proofs.AttrLists.{gap, set-there, set-missing, contains-there, get-missing}
 use Rattle.up_model.proofs.plain_attrs.PlainAttrs.set.Goals as goal
 
 pub invariant_of-self : goal.invariant_of-self
