@@ -4,7 +4,7 @@ use Rattle.up_model.specs.Chain.{IsChain, IsRawSource}
 use Rattle.up_model.specs.Meaning.{Flow, put_out, flow_within, sink_bytes}
 use Rattle.up_model.specs.Packet.{joined}
 use Rattle.up_model.specs.declared.kind.Kind.{Kind}
-use Rattle.up_model.specs.declared.kind.Kind.TheVariants.{Source, Sink, Idem}
+use Rattle.up_model.specs.declared.kind.Kind.TheVariants.{Source, Idem}
 use Rattle.up_model.specs.declared.pipe.Pipe.{Pipe}
 
 -- what stands at a place of the list

@@ -1,5 +1,4 @@
 -- The attributes of a packet: a finite map from names to values.
-use Rattle.std.specs.Prelude.{List, ℕ}
 use Rattle.std.specs.Ordering.{nat_cmp}
 use Rattle.std.specs.Cmp.Lexicographic.{slice_cmp}
 use Rattle.std.specs.FinMap.{FinMap}

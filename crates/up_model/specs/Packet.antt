@@ -1,9 +1,7 @@
 -- Packets: a finite map from names to values, and a list of bytes.
 use Rattle.std.specs.Prelude.{◌≡◌, ℕ, ◌≤◌, true, List, length, map, All}
 use Rattle.std.specs.List.{concat}
-use Rattle.std.specs.Ordering.{nat_cmp}
-use Rattle.std.specs.Cmp.Lexicographic.{slice_cmp}
-use Rattle.std.specs.FinMap.{FinMap, empty, keys, values as values_of, len}
+use Rattle.std.specs.FinMap.{empty, keys, values as values_of, len}
 use Rattle.up_base.specs.Name.{is_name}
 use Rattle.up_model.specs.Value.{value_size}
 pub use Rattle.up_model.specs.Attrs.{Attrs}

@@ -1,5 +1,5 @@
 -- The kind `skip`: takes the first bytes off each packet, and drops a packet that has fewer.
-use Rattle.std.specs.Prelude.{ℕ, ◌-◌, nat_le, List, [], ◌∷◌, length, drop, if◌then◌else◌}
+use Rattle.std.specs.Prelude.{ℕ, ◌-◌, nat_le, [], ◌∷◌, length, drop, if◌then◌else◌}
 use Rattle.std.specs.List.{flat_map}
 use Rattle.up_model.specs.Packet.{PlainPacket, Flow, joined}
 use Rattle.up_model.specs.Tallies.{counted}

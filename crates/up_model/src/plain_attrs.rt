@@ -1,5 +1,9 @@
 // The attributes of a packet, in the order of their names.
-ghost use Rattle.std.specs.Prelude.{◌≡◌, ◌<◌, Some, None, slice_get, IfOk, OnOk, OnErr, IfErr, MatchOption};
+ghost use Rattle.std.specs.Prelude.{◌≡◌, ◌<◌, ◌≤◌, Some, None, length, slice_get, slice_set, IfOk, OnOk, OnErr, IfErr, MatchOption};
+ghost use Rattle.std.specs.Ordering.{nat_cmp};
+ghost use Rattle.std.specs.Cmp.Lexicographic.{slice_cmp};
+ghost use Rattle.std.specs.List.{HoldsAt, insert};
+ghost use Rattle.std.specs.List.Sorted.{IsBinarySearchResult, IsSearchInRange};
 ghost use Rattle.std.specs.FinMap as map;
 ghost use Rattle.up_model.specs.Value.{seen};
 
@@ -32,16 +36,47 @@ impl Model for PlainAttrs {
     ghost invariant = { λ attrs. T (is_sorted (slice_cmp nat_cmp) attrs.entries.items) };
 }
 
-/// The place of the first name that isn't less.
-fn place_of(entries: &[(AttrName, Value)], name: AttrName) -> usize {
-    entries.partition_point(|entry| entry.0.bytes() < name.bytes())
+/// The place of the entry with the name, or else the place where it would stand.
+fn place_of(entries: &[(AttrName, Value)], name: &AttrName) -> Result<usize, usize>
+    ensures bound { IsSearchInRange result (length entries.now) }
+    ensures place { IsBinarySearchResult (λ entry. slice_cmp nat_cmp entry.0 name.now) entries.now result }
+{
+    entries.binary_search_by(|entry| entry.0.bytes().cmp(name.bytes()))
 }
 
-/// Whether the entry at the place has the name.
-fn has_at(entries: &[(AttrName, Value)], at: usize, name: AttrName) -> bool {
-    match entries.get(at) {
-        Some(entry) => entry.0.bytes() == name.bytes(),
-        None => false,
+/// The value of the entry at a place, lent.
+fn value_at(entries: &[(AttrName, Value)], at: usize) -> ValueView<'_>
+    requires { at < length entries.now }
+    ensures { HoldsAt (λ entry. entry.1 ≡ seen result) entries.now at }
+{
+    entries[at].1.view()
+}
+
+/// Gives the entry at a place another value.
+fn put_at(entries: &mut Vec<(AttrName, Value)>, at: usize, value: Value)
+    requires { at < length entries.old.items }
+    ensures { HoldsAt (λ entry. entries.new.items ≡ slice_set entries.old.items at (entry.0, value)) entries.old.items at }
+{
+    entries[at].1 = value;
+}
+
+/// Adds an entry at a place. Where there is no room the value comes back.
+fn insert_at(
+    entries: &mut Vec<(AttrName, Value)>,
+    at: usize,
+    name: AttrName,
+    value: Value,
+) -> Result<(), NoRoom<Value>>
+    requires { at ≤ length entries.old.items }
+    ensures added { OnOk result (entries.new.items ≡ insert entries.old.items at (name, value)) }
+    ensures unchanged { OnErr result (entries.new.items ≡ entries.old.items) }
+    ensures back { IfErr result (λ refused. refused.back ≡ value) }
+{
+    match entries.insert(at, (name, value)) {
+        Ok(()) => Ok(()),
+        Err(refused) => Err(NoRoom {
+            back: refused.value.1,
+        }),
     }
 }
 
@@ -62,16 +97,15 @@ impl PlainAttrs {
         ensures unchanged { OnErr result (self.new ≡ self.old) }
         ensures back { IfErr result (λ refused. refused.back ≡ value) }
     {
-        let at = place_of(&self.entries, name);
-        if has_at(&self.entries, at, name) {
-            self.entries[at].1 = value;
-            return Ok(true);
-        }
-        match self.entries.insert(at, (name, value)) {
-            Ok(()) => Ok(false),
-            Err(refused) => Err(NoRoom {
-                back: refused.value.1,
-            }),
+        match place_of(&self.entries, &name) {
+            Ok(at) => {
+                put_at(&mut self.entries, at, value);
+                Ok(true)
+            }
+            Err(at) => {
+                insert_at(&mut self.entries, at, name, value)?;
+                Ok(false)
+            }
         }
     }
 
@@ -81,11 +115,10 @@ impl PlainAttrs {
             (map.get self.now name.now ≡ None)
             (λ value. map.get self.now name.now ≡ Some (seen value)) }
     {
-        let entry = self
-            .entries
-            .iter()
-            .find(|entry| entry.0.bytes() == name.bytes())?;
-        Some(entry.1.view())
+        match place_of(&self.entries, name) {
+            Ok(at) => Some(value_at(&self.entries, at)),
+            Err(_) => None,
+        }
     }
 
     /// Takes the attribute away, and says whether it was there.
@@ -93,12 +126,13 @@ impl PlainAttrs {
         ensures gone { self.new ≡ map.remove self.old name.now }
         ensures there { result ≡ map.contains_key self.old name.now }
     {
-        let at = place_of(&self.entries, *name);
-        let there = has_at(&self.entries, at, *name);
-        if there {
-            drop(self.entries.remove(at));
+        match place_of(&self.entries, name) {
+            Ok(at) => {
+                drop(self.entries.remove(at));
+                true
+            }
+            Err(_) => false,
         }
-        there
     }
 
     /// How many attributes there are.
