@@ -1,5 +1,5 @@
 -- Sums of what a pipe did. Here they have no bound; where they are kept, each stops at 2^64 - 1.
-use Rattle.std.specs.Prelude.{ℕ, ◌+◌, ◌-◌, ◌^◌, min, length}
+use Rattle.std.specs.Prelude.{ℕ, ◌+◌, ◌-◌, ◌^◌, min, max, length}
 use Rattle.up_model.specs.Packet.{Flow}
 use Rattle.up_model.specs.declared.tally.Tally.{Tally}
 
@@ -18,19 +18,19 @@ plus a b = record {
   lost = a.lost + b.lost;
 }
 
--- a sum as it is kept
-abbrev pub kept : ℕ → ℕ
-kept sum = min sum (2 ^ 64 - 1)
+-- a sum that is kept, and more; it stops at 2^64 - 1
+abbrev pub more : ℕ → ℕ → ℕ
+more sum count = max sum (min (sum + count) (2 ^ 64 - 1))
 
--- six sums as they are kept
-abbrev pub bounded : Tally → Tally
-bounded tally = record {
-  taken = kept tally.taken;
-  put = kept tally.put;
-  dropped = kept tally.dropped;
-  cut = kept tally.cut;
-  gained = kept tally.gained;
-  lost = kept tally.lost;
+-- six sums that are kept, and more
+abbrev pub added : Tally → Tally → Tally
+added a b = record {
+  taken = more a.taken b.taken;
+  put = more a.put b.put;
+  dropped = more a.dropped b.dropped;
+  cut = more a.cut b.cut;
+  gained = more a.gained b.gained;
+  lost = more a.lost b.lost;
 }
 
 -- these packets were taken and these put out, so many were dropped, and so many bytes cut

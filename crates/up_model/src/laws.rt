@@ -5,7 +5,7 @@ ghost use Rattle.up_model.specs.Cutting.{blocks};
 ghost use Rattle.up_model.specs.Kinds.{output_of, settled_output, IsPrefix};
 ghost use Rattle.up_model.specs.Meaning.{sink_bytes};
 ghost use Rattle.up_model.specs.Packet.{Flow, IsLegal, joined};
-ghost use Rattle.up_model.specs.Tallies.{plus, bounded};
+ghost use Rattle.up_model.specs.Tallies.{plus, added};
 ghost use Rattle.up_model.specs.declared.kind.Kind.{Kind as TheKind};
 ghost use Rattle.up_model.specs.declared.pipe.Pipe.{Pipe as ThePipe};
 ghost use Rattle.up_model.specs.declared.tally.Tally.{Tally as TheTally};
@@ -36,7 +36,7 @@ pub fn outputs_are_legal()
     ensures { (kind : TheKind) (taken : Flow) → All IsLegal taken → All IsLegal (output_of kind taken) }
 {}
 
-/// Sums that are kept one after the other are kept as their sum is.
+/// To add to sums that are kept one after the other is to add both together.
 pub fn sums_add_up()
-    ensures { (a b : TheTally) → bounded (plus (bounded a) b) ≡ bounded (plus a b) }
+    ensures { (sums a b : TheTally) → added (added sums a) b ≡ added sums (plus a b) }
 {}

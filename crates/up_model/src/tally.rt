@@ -18,7 +18,7 @@ pub struct Tally {
 }
 
 impl Tally {
-    ghost use Rattle.up_model.specs.Tallies.{plus, bounded, of_passed, of_dropped};
+    ghost use Rattle.up_model.specs.Tallies.{added, of_passed, of_dropped};
 
     /// That of one packet that was taken and put out, less so many bytes.
     pub fn of_passed(cut: u64) -> Tally
@@ -50,7 +50,7 @@ impl Tally {
 
     /// Both sums together, each of which stops at 2^64 - 1.
     pub fn plus(self, more: Tally) -> Tally
-        ensures { result ≡ bounded (plus self more) }
+        ensures { result ≡ added self more }
     {
         Tally {
             taken: self.taken.saturating_add(more.taken),
