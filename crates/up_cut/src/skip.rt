@@ -69,9 +69,13 @@ impl<P: LocalPacket> Module<P> for Skip {
             return Ok(());
         }
         p.drop_front(self.bytes, s);
-        put_out(p, out, s)?;
-        out.add_tally(Tally::of_passed(u64::from(self.bytes)));
-        Ok(())
+        match put_out(p, out, s) {
+            Ok(()) => {
+                out.add_tally(Tally::of_passed(u64::from(self.bytes)));
+                Ok(())
+            }
+            Err(NoMemory) => Err(NoMemory),
+        }
     }
 
     fn finish(self, _out: &mut Outbox<P>, _s: &mut P::Store) -> Result<(), NoMemory> {

@@ -1,6 +1,7 @@
 -- What a module puts into an outbox in one call.
 use Rattle.std.proofs.Common.{◌≡◌, List, [], ◌∷◌, ◌++◌, map, refl, sym, ap, ◌∙◌, append-nil, append_assoc, arith}
 use Rattle.std.proofs.lemmas.List.{map-append}
+use Rattle.up_model.proofs.Steps.{with_packet, with_sums, plus-nothing}
 use Rattle.up_model.specs.Kinds.{Work}
 use Rattle.up_model.specs.Tallies.{plus, added, nothing}
 use Rattle.up_model.specs.declared.plain_packet.PlainPacket.{PlainPacket}
@@ -10,45 +11,53 @@ use Rattle.up_shape.specs.Outgoing.{Outgoing}
 
 module _ {P : Type 0} (plain : P → PlainPacket) (old new : Outgoing P) (before after : Work) where
   -- one packet was put out, and so much counted
-  pub puts_one : (packet : P) (counted : Tally)
-      → new.packets ≡ old.packets ++ packet ∷ [] → new.tally ≡ added old.tally counted
-      → after.flow ≡ before.flow ++ plain packet ∷ [] → after.tally ≡ plus before.tally counted → Grew plain old new before after
-  puts_one packet counted packets tally flow sums =
-      record { given = packet ∷ []; counted = counted; packets = packets; tally = tally; flow = flow; sums = sums }
+  pub puts_one : (packet : P) (counted : Tally) → new.packets ≡ old.packets ++ packet ∷ [] → new.tally ≡ added old.tally counted
+      → after ≡ with_packet before (plain packet) counted → Grew plain old new before after
+  puts_one packet counted packets tally grown = record {
+    given = packet ∷ [];
+    counted = counted;
+    packets = packets;
+    tally = tally;
+    flow = ap (λ work. work.flow) grown;
+    sums = ap (λ work. work.tally) grown;
+  }
 
   -- no packet was put out, and so much counted
   pub puts_none : (counted : Tally) → new.packets ≡ old.packets → new.tally ≡ added old.tally counted
-      → after.flow ≡ before.flow → after.tally ≡ plus before.tally counted → Grew plain old new before after
-  puts_none counted packets tally flow sums = record {
+      → after ≡ with_sums before counted → Grew plain old new before after
+  puts_none counted packets tally grown = record {
     given = [];
     counted = counted;
     packets = packets ∙ sym (append-nil old.packets);
     tally = tally;
-    flow = flow ∙ sym (append-nil before.flow);
-    sums = sums;
+    flow = ap (λ work. work.flow) grown ∙ sym (append-nil before.flow);
+    sums = ap (λ work. work.tally) grown;
   }
 
-  -- no packet was put out, where the work would have grown by some
-  pub puts_nothing : (rest : List PlainPacket) → new.packets ≡ old.packets
-      → after.flow ≡ before.flow ++ rest → GrewInPart plain old new before after
-  puts_nothing rest packets flow = record {
+  -- no packet was put out, where the work would have grown by one
+  pub puts_not : (packet : PlainPacket) (counted : Tally) → new.packets ≡ old.packets
+      → after ≡ with_packet before packet counted → GrewInPart plain old new before after
+  puts_not packet counted packets grown = record {
     given = [];
-    lacking = rest;
+    lacking = packet ∷ [];
     packets = packets ∙ sym (append-nil old.packets);
-    flow = flow ∙ ap (λ front. front ++ rest) (sym (append-nil before.flow));
+    flow = ap (λ work. work.flow) grown ∙ ap (λ front. front ++ packet ∷ []) (sym (append-nil before.flow));
   }
 
 -- to add nothing changes nothing
 added_nothing : (tally : Tally) → added tally nothing ≡ tally
 added_nothing tally = grind arith
 
-plus_nothing : (tally : Tally) → plus tally nothing ≡ tally
-plus_nothing tally = grind arith
-
 -- where the work is done, nothing is put out and nothing counted
 pub owes_nothing : {P : Type 0} (plain : P → PlainPacket) (outbox : Outgoing P) (work : Work) → Grew plain outbox outbox work work
-owes_nothing plain outbox work =
-    puts_none plain outbox outbox work work nothing refl (sym (added_nothing outbox.tally)) refl (sym (plus_nothing work.tally))
+owes_nothing plain outbox work = record {
+  given = [];
+  counted = nothing;
+  packets = sym (append-nil outbox.packets);
+  tally = sym (added_nothing outbox.tally);
+  flow = sym (append-nil work.flow);
+  sums = sym (plus-nothing work.tally);
+}
 
 -- to add to sums one after the other is to add both together
 added-added : (sums a b : Tally) → added (added sums a) b ≡ added sums (plus a b)
