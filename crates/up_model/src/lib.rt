@@ -1,6 +1,8 @@
 //! The meaning of a graph: its pipes, packets and kinds, and what each pipe makes of what it takes.
 #![tactic(auto)]
 
+#[cfg(test)]
+mod attr_tests;
 mod catch_set;
 mod event_kind;
 mod form;

@@ -39,7 +39,8 @@ impl Model for PlainAttrs {
 /// The place of the entry with the name, or else the place where it would stand.
 fn place_of(entries: &[(AttrName, Value)], name: &AttrName) -> Result<usize, usize>
     ensures bound { IsSearchInRange result (length entries.now) }
-    ensures place { IsBinarySearchResult (λ entry. slice_cmp nat_cmp entry.0 name.now) entries.now result }
+    ensures place { IsBinarySearchResult
+        (λ entry. slice_cmp nat_cmp entry.0 name.now) entries.now result }
 {
     entries.binary_search_by(|entry| entry.0.bytes().cmp(name.bytes()))
 }
@@ -55,7 +56,9 @@ fn value_at(entries: &[(AttrName, Value)], at: usize) -> ValueView<'_>
 /// Gives the entry at a place another value.
 fn put_at(entries: &mut Vec<(AttrName, Value)>, at: usize, value: Value)
     requires { at < length entries.old.items }
-    ensures { HoldsAt (λ entry. entries.new.items ≡ slice_set entries.old.items at (entry.0, value)) entries.old.items at }
+    ensures { HoldsAt
+        (λ entry. entries.new.items ≡ slice_set entries.old.items at (entry.0, value))
+        entries.old.items at }
 {
     entries[at].1 = value;
 }

@@ -1,10 +1,11 @@
 use crate::{
     CatchSet, DEFAULT_BLOCK, DEFAULT_QUEUE, Graph, Kind, MAX_GRAPH, MAX_LIMIT, MAX_PATH, MAX_PIPES,
-    Pipe, PipeList, SinkForm, SourceForm, Tally, blocks_rejoin, chain_copies, default_worker,
+    PacketList, Pipe, PipeList, PlainAttrs, PlainPacket, SinkForm, SourceForm, Tally,
+    blocks_rejoin, chain_copies, default_worker, outputs_are_legal, settled_is_prefix, sums_add_up,
 };
 use std::alloc::Global;
 use std::test::Fail;
-use up_base::{PipeName, Text};
+use up_base::{Bytes, PipeName, Text};
 
 #[test]
 fn a_pipe_runs_on_main_where_its_graph_names_no_worker(rt: HostRuntime) {
@@ -35,8 +36,81 @@ fn nothing_is_caught_or_counted_by_default(rt: HostRuntime) {
         tally.lost,
     ];
     assert_eq!(rt; sums, [0; 6]);
+}
+
+#[test]
+fn each_law_can_be_called(rt: HostRuntime) {
+    let _ = rt;
     blocks_rejoin();
     chain_copies();
+    settled_is_prefix();
+    outputs_are_legal();
+    sums_add_up();
+}
+
+#[test]
+fn a_passed_and_a_dropped_packet_are_counted_together(rt: HostRuntime) {
+    let both = Tally::of_passed(3).plus(Tally::of_dropped(2));
+    let wanted = Tally {
+        taken: 2,
+        put: 1,
+        dropped: 1,
+        cut: 5,
+        gained: 0,
+        lost: 0,
+    };
+    assert_eq!(rt; both, wanted);
+}
+
+#[test]
+fn a_sum_that_is_full_stays_full(rt: HostRuntime) {
+    let most = 18_446_744_073_709_551_615;
+    let all = Tally {
+        taken: most,
+        put: 4,
+        dropped: most - 1,
+        cut: most - 2,
+        gained: 5,
+        lost: most,
+    };
+    let more = Tally {
+        taken: 1,
+        put: 1,
+        dropped: 1,
+        cut: 3,
+        gained: 2,
+        lost: most,
+    };
+    let wanted = Tally {
+        taken: most,
+        put: 5,
+        dropped: most,
+        cut: most,
+        gained: 7,
+        lost: most,
+    };
+    assert_eq!(rt; all.plus(more), wanted);
+}
+
+#[test]
+fn packets_come_out_in_the_order_of_their_adding(rt: HostRuntime) -> Result<(), Fail> {
+    let alloc = rt.alloc();
+    let mut packets = PacketList::new(alloc);
+    for text in ["ab", "", "cde"] {
+        packets.push(PlainPacket {
+            attrs: PlainAttrs::new(alloc),
+            bytes: Bytes::from_slice(alloc, text.as_bytes())?,
+        })?;
+    }
+    assert_eq!(rt; packets.len(), 3);
+    assert_eq!(rt; packets.at(2).bytes.as_slice(), b"cde".as_slice());
+    for text in ["ab", "", "cde"] {
+        let packet = packets.next().ok_or("no packet")?;
+        assert_eq!(rt; packet.bytes.as_slice(), text.as_bytes());
+        assert_eq!(rt; packet.attrs.len(), 0);
+    }
+    assert!(rt; packets.next().is_none());
+    Ok(())
 }
 
 /// A pipe on the worker `main`, with all else as a graph file has it that names nothing more.
