@@ -2,15 +2,25 @@
 //! and modules with their laws.
 #![tactic(auto)]
 
+mod byte_edits;
 mod control;
+mod drawn;
 mod module;
 mod outbox;
 mod packet;
+mod plain_copy;
 mod stash;
+mod vec_packet;
+mod vec_room;
+mod vec_store;
 
 pub use control::{Command, ControlRefused, Reply};
+pub use drawn::Drawn;
 pub use module::Module;
 pub use outbox::Outbox;
 pub use packet::Packet;
 pub use stash::Stash;
 pub use up_model::Opt;
+pub use vec_packet::VecPacket;
+pub use vec_room::VecRoom;
+pub use vec_store::VecStore;
