@@ -24,3 +24,12 @@ pub use up_model::Opt;
 pub use vec_packet::VecPacket;
 pub use vec_room::VecRoom;
 pub use vec_store::VecStore;
+
+#[cfg(test)]
+mod outbox_tests;
+#[cfg(test)]
+mod vec_attrs_tests;
+#[cfg(test)]
+mod vec_packet_tests;
+#[cfg(test)]
+mod vec_store_tests;
