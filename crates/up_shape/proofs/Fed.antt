@@ -29,7 +29,7 @@ module _ {M P : Type 0} (plain : P → PlainPacket) (kind : M → Kind) (stands 
       → IsFed plain kind stands m next whole left old new
   fed_next now next packet left mid new before same stood grew =
       let one_more : (fed : Flow) → (fed ++ map plain before.packets) ++ plain packet ∷ [] ≡ fed ++ map plain (before.packets ++ packet ∷ []) =
-          λ fed. append_assoc fed (map plain before.packets) (plain packet ∷ []) ∙ ap (λ more. fed ++ more) (sym (map-append plain before.packets (packet ∷ []))) in
+      λ fed. append_assoc fed (map plain before.packets) (plain packet ∷ []) ∙ ap (λ more. fed ++ more) (sym (map-append plain before.packets (packet ∷ []))) in
       record {
         packets = before.packets ++ packet ∷ [];
         split = before.split ∙ sym (append_assoc before.packets (packet ∷ []) left);

@@ -1,3 +1,5 @@
+pub mod Copies
+pub mod Counts
 pub mod Fed
 pub mod Growths
 pub mod StoreSteps

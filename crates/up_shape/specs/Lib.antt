@@ -5,3 +5,6 @@ pub mod Growth
 pub mod Histories
 pub mod Outgoing
 pub mod Stores
+pub mod VecPackets
+pub mod VecRooms
+pub mod VecStores

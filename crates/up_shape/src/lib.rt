@@ -2,15 +2,22 @@
 //! and modules with their laws.
 #![tactic(auto)]
 
+mod byte_edits;
 mod control;
+mod drawn;
 mod flow;
 mod local_packet;
 mod module;
 mod outbox;
 mod packet;
+mod plain_copy;
 mod stash;
+mod vec_packet;
+mod vec_room;
+mod vec_store;
 
 pub use control::{Command, ControlRefused, Reply};
+pub use drawn::Drawn;
 pub use flow::{feed_all, give_up_all, run_flow};
 pub use local_packet::LocalPacket;
 pub use module::Module;
@@ -18,3 +25,15 @@ pub use outbox::{Outbox, put_out};
 pub use packet::Packet;
 pub use stash::Stash;
 pub use up_model::Opt;
+pub use vec_packet::VecPacket;
+pub use vec_room::VecRoom;
+pub use vec_store::VecStore;
+
+#[cfg(test)]
+mod outbox_tests;
+#[cfg(test)]
+mod vec_attrs_tests;
+#[cfg(test)]
+mod vec_packet_tests;
+#[cfg(test)]
+mod vec_store_tests;

@@ -22,13 +22,12 @@ pub loop-p-preserved : goal.loop-p-preserved
 loop-p-preserved g c =
     let fed = rw c.in-Some.ensures at c.loop-p.invariant.0 in
     let legal = rw c.in-Some.ensures at c.loop-p.invariant.1 in
-    let fits = rw c.in-Some.ensures at c.loop-p.invariant.2 in
-    (
+    let fits = rw c.in-Some.ensures at c.loop-p.invariant.2 in (
       fed_next _ _ _ _ _ _ _ _ _ _ _ _ fed c.feed.ensures.kind c.in-Ok.ensures.stands c.in-Ok.ensures.grew,
       All-tail (λ p. IsLegal (g.P.LocalPacket.plain p)) _ _ legal,
       All-tail (λ p. g.P.LocalPacket.fits p (g.P.Store.Stash.family c.args.s.now)) _ _ fits,
       rw c.loop-p.invariant.4.same at c.feed.ensures.family,
-      Stays-trans _ _ _ _ _ _ c.loop-p.invariant.4 c.feed.ensures.store
+      Stays-trans _ _ _ _ _ _ c.loop-p.invariant.4 c.feed.ensures.store,
     )
 
 pub give_up_all-requires : goal.give_up_all-requires
