@@ -14,15 +14,19 @@ use Rattle.up_model.specs.Attrs.{Attrs}
 use Rattle.up_model.specs.declared.value.Value.{Value}
 use Rattle.up_model.specs.declared.value.Value.TheVariants.{Void}
 
+-- a name and its value
 abbrev pub Attr : Type 0
 Attr = List ℕ × Value
 
+-- names by their bytes
 abbrev pub by_name : List ℕ → List ℕ → Ordering
 by_name = slice_cmp nat_cmp
 
+-- the names strictly rise
 abbrev pub HasOrder : List Attr → Type 0
 HasOrder list = T (is_sorted by_name list)
 
+-- the map of a list in order
 abbrev pub attrs_of : List Attr → Attrs
 attrs_of list = from_sorted list
 
@@ -44,6 +48,7 @@ pub gap : (list : List Attr) (name : List ℕ) (at : ℕ) → HasOrder list
     → (IsNonDecreasingBy (λ attr. ordering_index (by_name attr.0 name)) list → IsGap list name at) → IsGap list name at
 gap list name at order found = found (searchable nat_list_cmp_total list name order)
 
+-- the list with the attribute put in its place stands for the map with it
 pub is_put : (list new : List Attr) (name : List ℕ) (value : Value) → HasOrder list → new ≡ put by_name name value list
     → StandsFor new (map.insert (attrs_of list) name value)
 is_put list new name value order is =
@@ -70,18 +75,21 @@ pub set-missing : (list new : List Attr) (name : List ℕ) (value : Value) (at :
 set-missing list new name value at order within cut is =
     is_put list new name value order (is ∙ sym (put-missing nat_list_cmp_total name value list at within cut))
 
+-- the value at the name's place is the one that the map has
 pub get-there : (list : List Attr) (name : List ℕ) (value : Value) (at : ℕ) → HasOrder list → at < length list → IsAt list name at
     → HoldsAt (λ attr. attr.1 ≡ value) list at → map.get (attrs_of list) name ≡ Some value
 get-there list name value at order within here is =
     let d : Attr = (name, value) in
     get-from_sorted by_name list name order ∙ find-there nat_list_cmp_total name list at d order within here ∙ ap Some (is d)
 
+-- a name that stands at a place is in the map
 pub contains-there : (list : List Attr) (name : List ℕ) (at : ℕ) → HasOrder list → at < length list → IsAt list name at
     → map.contains_key (attrs_of list) name ≡ true
 contains-there list name at order within here =
     let d : Attr = (name, Void) in
     ap is_some (get-from_sorted by_name list name order ∙ find-there nat_list_cmp_total name list at d order within here)
 
+-- a name that has a gap isn't in the map
 pub get-missing : (list : List Attr) (name : List ℕ) (at : ℕ) → HasOrder list → IsGap list name at
     → map.get (attrs_of list) name ≡ None
 get-missing list name at order cut =
@@ -110,22 +118,27 @@ without list new name order is =
     flipped true found = refl
     flipped false found = refl
 
+-- the list without the name's place
 pub remove-there : (list new : List Attr) (name : List ℕ) (at : ℕ) → HasOrder list → at < length list → IsAt list name at
     → new ≡ remove list at → StandsFor new (map.remove (attrs_of list) name)
 remove-there list new name at order within here is =
     without list new name order (is ∙ sym (where_key-there nat_list_cmp_total name list at order within here))
 
+-- where the name isn't there, nothing is taken away
 pub remove-missing : (list : List Attr) (name : List ℕ) (at : ℕ) → HasOrder list → IsGap list name at
     → attrs_of list ≡ map.remove (attrs_of list) name
 remove-missing list name at order cut =
     (without list list name order (sym (where_key-missing nat_list_cmp_total name list (apart nat_list_cmp_total name list at cut)))).is
 
+-- the map has as many attributes as the list
 pub len-list : (list : List Attr) → HasOrder list → map.len (attrs_of list) ≡ length list
 len-list list order = len-entries (attrs_of list) ∙ ap length (entries-from_sorted by_name list order)
 
+-- an empty list stands for the empty map
 pub no_attrs : (list : List Attr) → list ≡ [] → attrs_of list ≡ map.empty
 no_attrs list is = empty_of_len _ (len-list list (subst HasOrder (sym is) tt) ∙ ap length is)
 
+-- the attributes of the map stand in the order of the list
 pub entries-at : (list : List Attr) (at : ℕ) (attr : Attr) (value : Value) → HasOrder list → at < length list → attr ≡ get_or list at attr → value ≡ attr.1
     → slice_get (entries (attrs_of list)) at ≡ Some (attr.0, value)
 entries-at list at attr value order within here is =

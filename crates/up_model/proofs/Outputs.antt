@@ -17,6 +17,7 @@ settled_output-prefix Null taken more = ([], refl)
 settled_output-prefix Dup taken more = (more, refl)
 settled_output-prefix (Skip count) taken more = (skipped count more, skipped-append count taken more)
 
+-- a kind makes legal packets of legal ones
 pub output_is_legal : (kind : Kind) (taken : Flow) → All IsLegal taken → All IsLegal (output_of kind taken)
 output_is_legal (Source path form limit) taken legal = All-nil IsLegal
 output_is_legal (Sink path form) taken legal = All-nil IsLegal

@@ -10,22 +10,27 @@ use Rattle.up_model.specs.Skip.{skip_packet, skipped}
 abbrev pub shortened : ℕ → PlainPacket → PlainPacket
 shortened count packet = record packet { bytes = drop count packet.bytes }
 
+-- the bytes of two flows are those of the one and then of the other
 pub joined-append : (front more : Flow) → joined (front ++ more) ≡ joined front ++ joined more
 joined-append [] more = refl
 joined-append (packet ∷ front) more =
     ap (λ rest. packet.bytes ++ rest) (joined-append front more) ∙ sym (append_assoc packet.bytes (joined front) (joined more))
 
+-- one packet more adds its bytes
 pub length-joined_push : (flow : Flow) (packet : PlainPacket) → length (joined (flow ++ packet ∷ [])) ≡ length (joined flow) + length packet.bytes
 length-joined_push [] packet = omega (arith, length-append packet.bytes [])
 length-joined_push (first ∷ flow) packet =
     omega (arith, length-joined_push flow packet, length-append first.bytes (joined flow), length-append first.bytes (joined (flow ++ packet ∷ [])))
 
+-- two flows are skipped one by one
 pub skipped-append : (count : ℕ) (front more : Flow) → skipped count (front ++ more) ≡ skipped count front ++ skipped count more
 skipped-append count front more = flat_map-append (skip_packet count) front more
 
+-- a packet that has enough bytes loses its first ones
 pub skip_packet-long : (count : ℕ) (packet : PlainPacket) → count ≤ length packet.bytes → skip_packet count packet ≡ shortened count packet ∷ []
 skip_packet-long count packet enough = ap (λ b. cond b (shortened count packet ∷ []) []) (le-leb count (length packet.bytes) enough)
 
+-- a packet that has fewer is dropped
 pub skip_packet-short : (count : ℕ) (packet : PlainPacket) → length packet.bytes < count → skip_packet count packet ≡ []
 skip_packet-short count packet short = ap (λ b. cond b (shortened count packet ∷ []) []) (lt-leb count (length packet.bytes) short)
 
@@ -69,6 +74,7 @@ fewer_bytes count (packet ∷ taken) =
           omega (arith, fewer_bytes count taken, length-append packet.bytes (joined taken), length-append (drop count packet.bytes) (joined (skipped count taken)), length-drop count packet.bytes)
     ]
 
+-- a legal packet is legal without its first bytes
 shortened_is_legal : (count : ℕ) (packet : PlainPacket) → IsLegal packet → IsLegal (shortened count packet)
 shortened_is_legal count packet legal = record {
   few = legal.few;
@@ -77,6 +83,7 @@ shortened_is_legal count packet legal = record {
   size = omega (arith, legal.size, length-drop count packet.bytes);
 }
 
+-- what is put out of legal packets is legal
 pub skipped_is_legal : (count : ℕ) (taken : Flow) → All IsLegal taken → All IsLegal (skipped count taken)
 skipped_is_legal count [] legal = legal
 skipped_is_legal count (packet ∷ taken) legal =

@@ -22,6 +22,7 @@ less Equal p = absurd p
 less Greater p = absurd p
 
 module _ {K : Type 0} {R : K → K → Ordering} (o : IsTotalOrder R) where
+  -- the other way round an order is reversed
   turned : (x y : K) (r : Ordering) → R x y ≡ r → R y x ≡ ordering_reverse r
   turned x y r e = o.antisymm y x ∙ ap ordering_reverse e
 
@@ -32,6 +33,7 @@ module _ {K X : Type 0} {R : K → K → Ordering} (o : IsTotalOrder R) where
   below k (e ∷ es) zero d h within = less _ (first _ _ h)
   below k (e ∷ es) (suc at) d h within = below k es at d (second _ _ h) (omega arith)
 
+  -- no key is less than the one before it
   rises : (es : List (K × X)) → T (is_sorted R es) → IsSortedBy (λ a b. is_lt (R a.0 b.0)) es
   rises [] sorted at d from within = absurd (omega arith)
   rises (e ∷ es) sorted zero d from within =
@@ -51,6 +53,7 @@ module _ {K X : Type 0} {R : K → K → Ordering} (o : IsTotalOrder R) where
       let f = get_or es at e in
       turned o e.0 k Less (sym (alike_right o f.0 k e.0 (here e)) ∙ below e.0 es at e (first _ _ sorted) within)
 
+  -- at the place of a key that stands there, only the value changes
   pub put-there : (k : K) (v : X) (es : List (K × X)) (at : ℕ) (d : K × X) → T (is_sorted R es) → at < length es
       → HoldsAt (λ e. R e.0 k ≡ Equal) es at → put R k v es ≡ set es at ((get_or es at d).0, v)
   put-there k v [] at d sorted within here = absurd (omega arith)
@@ -67,6 +70,7 @@ module _ {K X : Type 0} {R : K → K → Ordering} (o : IsTotalOrder R) where
   tail_cut e es at k cut =
       (λ j d from within. cut.0 (suc j) d (omega arith) (omega arith), λ j d from within. cut.1 (suc j) d (omega arith) (omega arith))
 
+  -- a key that doesn't stand there goes between the less and the greater
   pub put-missing : (k : K) (v : X) (es : List (K × X)) (at : ℕ) → at ≤ length es
       → IsPartitionPoint (λ e. R e.0 k ≡ Less) (λ e. R e.0 k ≡ Greater) es at → put R k v es ≡ insert es at (k, v)
   put-missing k v [] zero within cut = refl
@@ -86,12 +90,14 @@ module _ {K X : Type 0} {R : K → K → Ordering} (o : IsTotalOrder R) where
         | inr behind ↦ ap is_eq (turned o (get_or es j d).0 k Greater (cut.1 j d behind within))
       ]
 
+  -- a key that no entry has isn't found
   pub find-missing : (k : K) (es : List (K × X)) → AllWithin (λ e. eq_by_cmp R k e.0 ≡ false) es 0 (length es) → find R k es ≡ None
   find-missing k [] none = refl
   find-missing k (e ∷ es) none =
       ap (λ b. cond b (Some e.1) (find R k es)) (none 0 e (omega arith) (omega arith))
       ∙ find-missing k es (λ j d from within. none (suc j) d (omega arith) (omega arith))
 
+  -- and without it the list is the same
   pub where_key-missing : (k : K) (es : List (K × X)) → AllWithin (λ e. eq_by_cmp R k e.0 ≡ false) es 0 (length es)
       → where_key R (λ x. not (eq_by_cmp R k x)) es ≡ es
   where_key-missing k [] none = refl
@@ -100,6 +106,7 @@ module _ {K X : Type 0} {R : K → K → Ordering} (o : IsTotalOrder R) where
       ap (λ b. cond (not b) (e ∷ rest) rest) (none 0 e (omega arith) (omega arith))
       ∙ ap (λ kept. e ∷ kept) (where_key-missing k es (λ j d from within. none (suc j) d (omega arith) (omega arith)))
 
+  -- the value at the place of a key is the one that is found
   pub find-there : (k : K) (es : List (K × X)) (at : ℕ) (d : K × X) → T (is_sorted R es) → at < length es
       → HoldsAt (λ e. R e.0 k ≡ Equal) es at → find R k es ≡ Some (get_or es at d).1
   find-there k [] at d sorted within here = absurd (omega arith)
@@ -109,6 +116,7 @@ module _ {K X : Type 0} {R : K → K → Ordering} (o : IsTotalOrder R) where
       ap (λ r. cond (is_eq r) (Some e.1) (find R k es)) (before e es at k sorted (omega arith) here)
       ∙ find-there k es at d (second _ _ sorted) (omega arith) here
 
+  -- the list without a key that stands at a place is the list without that place
   pub where_key-there : (k : K) (es : List (K × X)) (at : ℕ) → T (is_sorted R es) → at < length es
       → HoldsAt (λ e. R e.0 k ≡ Equal) es at → where_key R (λ x. not (eq_by_cmp R k x)) es ≡ remove es at
   where_key-there k [] at sorted within here = absurd (omega arith)

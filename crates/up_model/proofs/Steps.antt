@@ -21,10 +21,12 @@ with_sums work tally = record { flow = work.flow; tally = plus work.tally tally 
 abbrev pub no_work : Work
 no_work = record { flow = []; tally = nothing }
 
+-- work of the same packets and sums is the same
 same_work : (flow flow' : Flow) (tally tally' : Tally) → flow ≡ flow' → tally ≡ tally'
     → ◌≡◌ {A = Work} (record { flow = flow; tally = tally }) (record { flow = flow'; tally = tally' })
 same_work flow flow' tally tally' flows tallies = λ i. record { flow = flows i; tally = tallies i }
 
+-- six sums that are the same are the same tally
 same_tally : (a b : Tally) → a.taken ≡ b.taken → a.put ≡ b.put → a.dropped ≡ b.dropped → a.cut ≡ b.cut → a.gained ≡ b.gained → a.lost ≡ b.lost → a ≡ b
 same_tally a b taken put dropped cut gained lost = λ i. record {
   taken = taken i;
@@ -45,15 +47,17 @@ pub nothing-plus : (tally : Tally) → plus nothing tally ≡ tally
 nothing-plus tally =
     same_tally (plus nothing tally) tally (zero-add tally.taken) (zero-add tally.put) (zero-add tally.dropped) (zero-add tally.cut) (zero-add tally.gained) (zero-add tally.lost)
 
+-- one packet more
 length-push : (flow : Flow) (packet : PlainPacket) → length (flow ++ packet ∷ []) ≡ length flow + 1
 length-push flow packet = length-append flow (packet ∷ [])
 
--- `idem` and `dup` put the packet out as it is
+-- `idem` puts the packet out as it is
 pub settled_work-Idem : (taken : Flow) (packet : PlainPacket)
     → settled_work Idem (taken ++ packet ∷ []) ≡ with_packet (settled_work Idem taken) packet (of_passed 0)
 settled_work-Idem taken packet =
     same_work _ _ _ _ refl (same_tally _ _ (length-push taken packet) (length-push taken packet) refl refl refl refl)
 
+-- `dup` puts the packet out once, however many pipes take it
 pub settled_work-Dup : (taken : Flow) (packet : PlainPacket)
     → settled_work Dup (taken ++ packet ∷ []) ≡ with_packet (settled_work Dup taken) packet (of_passed 0)
 settled_work-Dup taken packet =
@@ -105,15 +109,18 @@ settled_work-none Null = refl
 settled_work-none Dup = refl
 settled_work-none (Skip count) = refl
 
--- these kinds owe nothing at the end
+-- `idem` owes nothing at the end
 pub work_of-Idem : (taken : Flow) → work_of Idem taken ≡ settled_work Idem taken
 work_of-Idem taken = refl
 
+-- nor does `dup`
 pub work_of-Dup : (taken : Flow) → work_of Dup taken ≡ settled_work Dup taken
 work_of-Dup taken = refl
 
+-- nor does `null`
 pub work_of-Null : (taken : Flow) → work_of Null taken ≡ settled_work Null taken
 work_of-Null taken = refl
 
+-- nor does `skip`
 pub work_of-Skip : (count : ℕ) (taken : Flow) → work_of (Skip count) taken ≡ settled_work (Skip count) taken
 work_of-Skip count taken = refl
