@@ -8,3 +8,6 @@ mod null_pipe;
 pub use dup_pipe::DupPipe;
 pub use idem::Idem;
 pub use null_pipe::NullPipe;
+
+#[cfg(test)]
+mod tests;

@@ -4,3 +4,6 @@
 mod skip;
 
 pub use skip::Skip;
+
+#[cfg(test)]
+mod skip_tests;

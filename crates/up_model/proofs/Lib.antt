@@ -10,6 +10,7 @@ pub mod OptionExamples
 pub mod OutcomeExamples
 pub mod Outputs
 pub mod PacketExamples
+pub mod Packets
 pub mod SkipExamples
 pub mod Skips
 pub mod SortedEntries

@@ -1,7 +1,7 @@
 // Whole flows, fed to a module.
-ghost use Rattle.std.specs.Prelude.{◌≡◌, ◌++◌, [], All, map, OnOk};
+ghost use Rattle.std.specs.Prelude.{◌≡◌, ◌≤◌, ◌++◌, ◌∷◌, [], All, length, map, OnOk};
 ghost use Rattle.up_model.specs.Kinds.{work_of, settled_work};
-ghost use Rattle.up_model.specs.Packet.{Flow, IsLegal};
+ghost use Rattle.up_model.specs.Packet.{Flow, IsLegal, plain};
 ghost use Rattle.up_shape.specs.Growth.{AreOf, Grew};
 ghost use Rattle.up_shape.specs.Stores.{Stays};
 
@@ -49,6 +49,30 @@ pub fn feed_all<P: LocalPacket, M: Module<P>>(
     }
     flow.end();
     Ok(())
+}
+
+/// Makes a packet of these bytes, at most 1,048,576, and feeds it.
+pub fn feed_bytes<P: LocalPacket, M: Module<P>>(
+    m: &mut M,
+    bytes: &[u8],
+    out: &mut Outbox<P>,
+    s: &mut P::Store,
+) -> Result<(), NoMemory>
+    requires size { length bytes.now ≤ 1048576 }
+    requires family { AreOf P.fits (M.agrees m.old) out.old.packets (P.Store.family s.old) }
+    ensures stands { (fed : Flow) → M.stands m.old fed
+        → OnOk result (M.stands m.new (fed ++ plain bytes.now ∷ [])) }
+    ensures grew { (fed : Flow) → M.stands m.old fed
+        → OnOk result (Grew P.plain out.old out.new (settled_work (M.kind m.old) fed)
+        (settled_work (M.kind m.old) (fed ++ plain bytes.now ∷ []))) }
+    ensures kind { M.kind m.new ≡ M.kind m.old }
+    ensures family { AreOf P.fits (M.agrees m.new) out.new.packets (P.Store.family s.old) }
+    ensures store { Stays P.Store.family P.Store.kept P.Store.drawn s.old s.new }
+{
+    match P::fresh(bytes, s) {
+        Ok(p) => m.feed(p, out, s),
+        Err(NoMemory) => Err(NoMemory),
+    }
 }
 
 /// Feeds a whole flow to a module that was fed nothing, and ends it: what the module puts out and counts is the work of

@@ -18,7 +18,7 @@ mod vec_store;
 
 pub use control::{Command, ControlRefused, Reply};
 pub use drawn::Drawn;
-pub use flow::{feed_all, give_up_all, run_flow};
+pub use flow::{feed_all, feed_bytes, give_up_all, run_flow};
 pub use local_packet::LocalPacket;
 pub use module::Module;
 pub use outbox::{Outbox, put_out};

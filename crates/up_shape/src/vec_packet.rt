@@ -1,4 +1,4 @@
-ghost use Rattle.std.specs.Prelude.{◌<◌, ◌^◌, length};
+ghost use Rattle.std.specs.Prelude.{◌≡◌, ◌<◌, ◌^◌, length};
 
 use crate::byte_edits::{copy_from, drop_first, write_over};
 use crate::plain_copy::{copied, owned};
@@ -12,6 +12,24 @@ pub struct VecPacket {
     attrs: PlainAttrs,
     bytes: Vec<u8>,
     ghost small: { length bytes.items < 2 ^ 32 },
+}
+
+impl VecPacket {
+    ghost use Rattle.up_shape.specs.VecPackets.{plain_of};
+
+    /// The attributes.
+    pub fn attrs(&self) -> &PlainAttrs
+        ensures { result.now ≡ (plain_of self.now).attrs }
+    {
+        &self.attrs
+    }
+
+    /// The bytes.
+    pub fn bytes(&self) -> &[u8]
+        ensures { result.now ≡ (plain_of self.now).bytes }
+    {
+        &self.bytes
+    }
 }
 
 impl Kin for VecPacket {

@@ -1,0 +1,88 @@
+use crate::{DupPipe, Idem, NullPipe};
+use std::process::Abort;
+use up_model::{Opt, Tally};
+use up_shape::{Command, ControlRefused, Module, Outbox, VecPacket, VecStore, feed_bytes};
+
+/// Feeds `ab`, an empty packet and `c`, and ends the flow. No option is there.
+fn run_three<M: Module<VecPacket>>(
+    rt: &impl Abort,
+    mut m: M,
+    out: &mut Outbox<VecPacket>,
+    s: &mut VecStore,
+)
+    requires { M.agrees m tt }
+{
+    assert!(rt; m.fresh());
+    assert_eq!(rt;
+        m.control(Command::Get(Opt::Offset)),
+        Err(ControlRefused::Unhandled)
+    );
+    assert_eq!(rt; feed_bytes(&mut m, b"ab", out, s), Ok(()));
+    assert!(rt; !m.fresh());
+    assert_eq!(rt; feed_bytes(&mut m, b"", out, s), Ok(()));
+    assert_eq!(rt; feed_bytes(&mut m, b"c", out, s), Ok(()));
+    assert_eq!(rt; m.finish(out, s), Ok(()));
+}
+
+/// The next packet that was put out has these bytes.
+fn assert_next(rt: &impl Abort, out: &mut Outbox<VecPacket>, wanted: &[u8]) {
+    match out.next() {
+        Some(packet) => assert_eq!(rt; packet.bytes(), wanted),
+        None => assert!(rt; false, "no packet was put out"),
+    }
+}
+
+/// What was put out is `ab`, an empty packet and `c`.
+fn assert_passed(rt: &impl Abort, mut out: Outbox<VecPacket>) {
+    let counted = Tally {
+        taken: 3,
+        put: 3,
+        dropped: 0,
+        cut: 0,
+        gained: 0,
+        lost: 0,
+    };
+    assert_eq!(rt; out.tally(), counted);
+    assert_next(rt, &mut out, b"ab");
+    assert_next(rt, &mut out, b"");
+    assert_next(rt, &mut out, b"c");
+    assert!(rt; out.next().is_none());
+    out.end();
+}
+
+#[test]
+fn idem_and_dup_pass_on_what_they_take(rt: HostRuntime) {
+    let s = &mut VecStore::new(rt.alloc());
+    let mut out = Outbox::new(rt.alloc());
+    run_three(&rt, Idem::new(), &mut out, s);
+    assert_passed(&rt, out);
+    let mut out = Outbox::new(rt.alloc());
+    run_three(&rt, DupPipe::new(), &mut out, s);
+    assert_passed(&rt, out);
+}
+
+#[test]
+fn null_takes_all_and_counts_it(rt: HostRuntime) {
+    let s = &mut VecStore::new(rt.alloc());
+    let mut out = Outbox::new(rt.alloc());
+    run_three(&rt, NullPipe::new(), &mut out, s);
+    let counted = Tally {
+        taken: 3,
+        put: 0,
+        dropped: 3,
+        cut: 3,
+        gained: 0,
+        lost: 0,
+    };
+    assert_eq!(rt; out.tally(), counted);
+    assert!(rt; out.next().is_none());
+    out.end();
+}
+
+#[test]
+fn a_broken_end_puts_nothing_out(rt: HostRuntime) {
+    let s = &mut VecStore::new(rt.alloc());
+    <Idem as Module<VecPacket>>::give_up(Idem::new(), s);
+    <DupPipe as Module<VecPacket>>::give_up(DupPipe::new(), s);
+    <NullPipe as Module<VecPacket>>::give_up(NullPipe::new(), s);
+}
