@@ -1,5 +1,5 @@
 -- What stores keep over calls that follow each other.
-use Rattle.std.proofs.Common.{◌≡◌, ℕ, ◌≤◌, ◌∙◌, refl, max, arith}
+use Rattle.std.proofs.Common.{ℕ, ◌∙◌, refl, arith}
 use Rattle.up_shape.specs.Stores.{Stays}
 
 module _ {S F : Type 0} (family : S → F) (kept drawn : S → ℕ) where

@@ -1,4 +1,3 @@
-use Rattle.std.proofs.Common.{◌∷◌, All, List, sym, subst, refl}
 use Rattle.std.proofs.lemmas.List.Elements.{All-head, All-tail}
 use Rattle.up_model.specs.Packet.{IsLegal}
 use Rattle.up_shape.proofs.Fed.{not_fed, fed_next}

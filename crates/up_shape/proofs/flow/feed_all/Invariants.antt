@@ -1,4 +1,4 @@
-use Rattle.std.proofs.Common.{◌≡◌, All, length}
+use Rattle.std.proofs.Common.{All, length}
 use Rattle.up_model.specs.Packet.{IsLegal}
 use Rattle.up_shape.specs.Fed.{IsFed}
 use Rattle.up_shape.specs.Growth.{AreOf}
