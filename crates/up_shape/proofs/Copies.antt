@@ -9,13 +9,9 @@ use Rattle.std.specs.Cmp.{IsTotalOrder}
 use Rattle.std.specs.FinMap.{FinMap, entries, entries_sorted, entries-insert, same_entries_map, empty, len, len-entries, len-empty, insert}
 use Rattle.std.specs.FinMap.Entries.{put, below_all, is_sorted, by_order}
 
-first : (a b : Bool) → T (a && b) → T a
-first true b p = tt
-first false b p = p
-
-second : (a b : Bool) → T (a && b) → T b
-second true b p = p
-second false b p = absurd p
+both : (a b : Bool) → T (a && b) → T a × T b
+both true b p = (tt, p)
+both false b p = absurd p
 
 less : (r : Ordering) → T (is_lt r) → r ≡ Less
 less Less p = refl
@@ -29,8 +25,8 @@ module _ {K X : Type 0} {R : K → K → Ordering} (o : IsTotalOrder R) where
   below_each low k v [] i below at = absurd (cc)
   below_each low k v (e ∷ es) zero below at =
       let same : e ≡ (k, v) = cc in
-      sym (ap (λ f. R low f.0) same) ∙ less _ (first _ _ below)
-  below_each low k v (e ∷ es) (suc i) below at = below_each low k v es i (second _ _ below) at
+      sym (ap (λ f. R low f.0) same) ∙ less _ (both _ _ below).0
+  below_each low k v (e ∷ es) (suc i) below at = below_each low k v es i (both _ _ below).1 at
 
   -- the next entry is put at the end of those before it
   put_next : (es : List (K × X)) (i : ℕ) (k : K) (v : X) → T (is_sorted R es) → slice_get es i ≡ Some (k, v)
@@ -40,9 +36,10 @@ module _ {K X : Type 0} {R : K → K → Ordering} (o : IsTotalOrder R) where
       let same : e ≡ (k, v) = cc in
       ap (λ f. f ∷ []) (sym same)
   put_next (e ∷ es) (suc i) k v sorted at =
-      let later : R k e.0 ≡ Greater = o.antisymm k e.0 ∙ ap ordering_reverse (below_each e.0 k v es i (first _ _ sorted) at) in
+      let parts = both _ _ sorted in
+      let later : R k e.0 ≡ Greater = o.antisymm k e.0 ∙ ap ordering_reverse (below_each e.0 k v es i parts.0 at) in
       ap (λ r. by_order r ((k, v) ∷ e ∷ take i es) ((e.0, v) ∷ take i es) (e ∷ put R k v (take i es))) later
-      ∙ ap (λ rest. e ∷ rest) (put_next es i k v (second _ _ sorted) at)
+      ∙ ap (λ rest. e ∷ rest) (put_next es i k v parts.1 at)
 
   -- a map with the first entries of another has one more of them after the next is inserted
   pub next_copied : (whole made : FinMap R X) (i : ℕ) (k : K) (v : X) → slice_get (entries whole) i ≡ Some (k, v)
