@@ -1,7 +1,16 @@
+ghost use Rattle.std.specs.Prelude.{◌≤◌, All, length};
+ghost use Rattle.up_model.specs.Packet.{IsLegal};
+ghost use Rattle.up_shape.specs.VecPackets.{plain_of};
+
 use crate::{DupPipe, Idem, NullPipe};
+use std::alloc::Global;
 use std::process::Abort;
+use up_base::ItemList;
 use up_model::{Opt, Tally};
-use up_shape::{Command, ControlRefused, Module, Outbox, VecPacket, VecStore, feed_bytes};
+use up_shape::{
+    Command, ControlRefused, LocalPacket, Module, Outbox, VecPacket, VecStore, feed_bytes,
+    give_up_all, run_flow,
+};
 
 /// Feeds `ab`, an empty packet and `c`, and ends the flow. No option is there.
 fn run_three<M: Module<VecPacket>>(
@@ -85,4 +94,41 @@ fn a_broken_end_puts_nothing_out(rt: HostRuntime) {
     <Idem as Module<VecPacket>>::give_up(Idem::new(), s);
     <DupPipe as Module<VecPacket>>::give_up(DupPipe::new(), s);
     <NullPipe as Module<VecPacket>>::give_up(NullPipe::new(), s);
+}
+
+/// Adds a packet of these bytes to the flow.
+fn push(rt: &impl Abort, flow: &mut ItemList<VecPacket>, bytes: &[u8], s: &mut VecStore)
+    requires size { length bytes.now ≤ 1048576 }
+    requires legal { All (λ p. IsLegal (plain_of p)) flow.old }
+    ensures { All (λ p. IsLegal (plain_of p)) flow.new }
+{
+    let packet = VecPacket::fresh(bytes, s).expect(rt, "no memory");
+    flow.push(packet).expect(rt, "no memory");
+}
+
+/// A flow of `ab`, an empty packet and `c`.
+fn three(rt: &impl Abort, alloc: Global, s: &mut VecStore) -> ItemList<VecPacket>
+    ensures { All (λ p. IsLegal (plain_of p)) result }
+{
+    let mut flow = ItemList::new(alloc);
+    push(rt, &mut flow, b"ab", s);
+    push(rt, &mut flow, b"", s);
+    push(rt, &mut flow, b"c", s);
+    flow
+}
+
+#[test]
+fn a_whole_flow_is_run_through_a_module(rt: HostRuntime) {
+    let s = &mut VecStore::new(rt.alloc());
+    let mut out = Outbox::new(rt.alloc());
+    let flow = three(&rt, rt.alloc(), s);
+    assert_eq!(rt; run_flow(Idem::new(), flow, &mut out, s), Ok(()));
+    assert_passed(&rt, out);
+    let mut out: Outbox<VecPacket> = Outbox::new(rt.alloc());
+    let flow = three(&rt, rt.alloc(), s);
+    assert_eq!(rt; run_flow(NullPipe::new(), flow, &mut out, s), Ok(()));
+    assert_eq!(rt; out.tally().dropped, 3);
+    assert!(rt; out.next().is_none());
+    out.end();
+    give_up_all(three(&rt, rt.alloc(), s), s);
 }
