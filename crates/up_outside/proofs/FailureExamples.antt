@@ -1,5 +1,5 @@
 -- Which calls a table of failures lets fail.
-use Rattle.std.proofs.Common.{◌≡◌, ℕ, List, [], ◌∷◌, Bool, true, false, refl}
+use Rattle.std.proofs.Common.{◌≡◌, List, [], ◌∷◌, true, false, refl}
 use Rattle.std.specs.Prelude.{codes}
 use Rattle.up_outside.specs.Asked.{entry}
 use Rattle.up_outside.specs.Failures.{failure, calls_made, is_due, numbers_of}

@@ -1,5 +1,4 @@
-use Rattle.std.proofs.Common.{◌≡◌, ℕ, List, [], ◌∷◌, ◌++◌, length, Option, Some, slice_get, refl, ◌∙◌, arith}
-use Rattle.std.proofs.lemmas.Grind.{common_steps}
+use Rattle.std.proofs.Common.{◌≡◌, ℕ, List, [], ◌∷◌, ◌++◌, length, Option, Some, slice_get, refl, ◌∙◌}
 use Rattle.up_outside.specs.Asked.{entry, AsksOpen, IsOpenAt}
 use Rattle.up_outside.specs.declared.asked.Entry.{Entry}
 use Rattle.up_outside.specs.declared.asked.Side.{Side}

@@ -1,4 +1,4 @@
-use Rattle.up_outside.proofs.Rooms.{keeps_others, keeps_all, rooms-set, rooms-insert, rooms-ask, is_held}
+use Rattle.up_outside.proofs.Rooms.{keeps_others, keeps_all, rooms-insert, rooms-ask, is_held}
 use Rattle.up_outside.proofs.mem_depot.MemDepot.give_sink.Goals as goal
 
 pub returns-in_err-ask-clause-others : goal.returns-in_err-ask-clause-others
