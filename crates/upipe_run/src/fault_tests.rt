@@ -183,7 +183,10 @@ fn after_a_refused_open_nothing_is_left_open(rt: HostRuntime) -> Result<(), Fail
         told_run(&rt, alloc, &mut depot)?;
         let asked = depot.asked();
         assert_eq!(rt; asked.len(), count, "{path}");
-        assert!(rt; asked.iter().all(|entry| entry.mark != Mark::Open), "{path}");
+        assert!(rt;
+            asked.iter().all(|entry| entry.mark != Mark::Open),
+            "{path}"
+        );
         let refused = asked.last().map(|entry| (entry.path.as_str(), entry.mark));
         assert_eq!(rt; refused, Some((path, Mark::Refused)), "{path}");
     }

@@ -13,7 +13,11 @@ pub(crate) const RUN: [&str; 2] = ["run", "g.toml"];
 
 /// The text of a graph that copies from `i` to `o` through idle pipes of these names. The fields are added to those of
 /// the source.
-pub(crate) fn chain_text(alloc: Global, idle: &[&'static str], fields: &str) -> Result<String, Fail> {
+pub(crate) fn chain_text(
+    alloc: Global,
+    idle: &[&'static str],
+    fields: &str,
+) -> Result<String, Fail> {
     let mut text = format!(in alloc;
         "version = 1\npipe = [{{name = 'in', kind = 'source', path = 'i'{fields}}},\n"
     )?;
