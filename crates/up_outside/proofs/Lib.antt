@@ -1,2 +1,3 @@
+pub mod FailureExamples
 pub mod HeldFiles
 pub mod Rooms

@@ -31,6 +31,12 @@ keeps_others held path bytes = record {
 pub keeps_all : (held : Held) (path : List ℕ) → KeepsOthers held (Some held) path
 keeps_all held path = record { after = held; told = refl; others = λ q differs. refl }
 
+-- the same of a call that may set it
+pub keeps_others-set : {E : Type 0} (held new : Held) (path bytes : List ℕ) (result : Result (Unit {0}) E)
+    → OnOk result (new ≡ insert held path bytes) → OnErr result (new ≡ held) → KeepsOthers held (Some new) path
+keeps_others-set held new path bytes (Ok u) set unchanged = rw set (keeps_others held path bytes)
+keeps_others-set held new path bytes (Err e) set unchanged = rw unchanged (keeps_all held path)
+
 -- what is held stays held where a path is set
 still_held : (held : Held) (path bytes q : List ℕ) → is_some (get held q) ≡ true → is_some (get (insert held path bytes) q) ≡ true
 still_held held path bytes q is = rw (get-inserted held path bytes q) (by_test (same q path))

@@ -1,5 +1,5 @@
 -- What was asked of a depot: one entry for each open, in order.
-use Rattle.std.specs.Prelude.{◌≡◌, ℕ, List, [], ◌∷◌, ◌++◌, length, Bool, Option, Some, slice_get, slice_set}
+use Rattle.std.specs.Prelude.{◌≡◌, ℕ, List, [], ◌∷◌, ◌++◌, length, Bool, Option, Some, Result, Ok, Err, slice_get, slice_set}
 use Rattle.up_base.specs.declared.refusal.Refusal.{Refusal}
 use Rattle.up_base.specs.declared.refusal.Refusal.TheVariants as refusals
 use Rattle.up_outside.specs.declared.asked.Entry.{Entry}
@@ -15,6 +15,11 @@ entry path side mark = record { path = path; side = side; mark = mark }
 abbrev pub refused : Refusal → List ℕ → Side → List Entry
 refused refusals.Failed path side = entry path side marks.Refused ∷ []
 refused refusals.NoMemory path side = []
+
+-- what an open adds, by its answer
+abbrev pub opened : {T : Type 0} → Result T Refusal → List ℕ → Side → List Entry
+opened (Ok x) path side = entry path side marks.Open ∷ []
+opened (Err e) path side = refused e path side
 
 -- the entry, marked anew
 abbrev pub with_mark : Entry → Mark → Entry

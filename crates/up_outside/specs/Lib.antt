@@ -1,10 +1,12 @@
 pub mod Adapters
 pub mod Asked
 pub mod Counts
+pub mod Failures
 pub mod Held
 pub mod HeldFiles
 pub mod MemDepot
 pub mod MemSink
 pub mod MemSource
+pub mod ObjectCalls
 pub mod Rooms
 pub mod Streams

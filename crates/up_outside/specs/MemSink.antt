@@ -1,5 +1,6 @@
 -- What a sink in memory tells.
-use Rattle.std.specs.Prelude.{ℕ, List, length}
+use Rattle.std.specs.Prelude.{◌≡◌, ℕ, List, length}
+use Rattle.up_outside.specs.declared.object_calls.ObjectCalls.{ObjectCalls}
 use Rattle.up_outside.specs.declared.mem_sink.MemSink.{MemSink}
 
 -- what was written
@@ -16,8 +17,17 @@ sink_place k = k.place
 
 -- how many of its writes failed
 abbrev pub sink_faults : MemSink → ℕ
-sink_faults k = k.faults
+sink_faults k = k.calls.faults
+
+-- its writes
+abbrev pub sink_calls : MemSink → ObjectCalls
+sink_calls k = k.calls
 
 -- the most bytes that a write takes
 abbrev pub sink_most : MemSink → ℕ
 sink_most k = k.most
+
+-- where it stands and what a write takes at most are as before
+pub record IsSameSink (old new : MemSink) : Type 0 where
+  pub place : sink_place new ≡ sink_place old
+  pub most : sink_most new ≡ sink_most old

@@ -1,5 +1,6 @@
 -- What a source over bytes in memory tells.
-use Rattle.std.specs.Prelude.{ℕ, List, drop}
+use Rattle.std.specs.Prelude.{◌≡◌, ℕ, List, drop}
+use Rattle.up_outside.specs.declared.object_calls.ObjectCalls.{ObjectCalls}
 use Rattle.up_outside.specs.declared.mem_source.MemSource.{MemSource}
 
 -- the bytes still to come
@@ -16,8 +17,17 @@ source_place s = s.place
 
 -- how many of its reads failed
 abbrev pub source_faults : MemSource → ℕ
-source_faults s = s.faults
+source_faults s = s.calls.faults
+
+-- its reads
+abbrev pub source_calls : MemSource → ObjectCalls
+source_calls s = s.calls
 
 -- the most bytes that a read gives
 abbrev pub source_most : MemSource → ℕ
 source_most s = s.most
+
+-- where it stands and what a read gives at most are as before
+pub record IsSameSource (old new : MemSource) : Type 0 where
+  pub place : source_place new ≡ source_place old
+  pub most : source_most new ≡ source_most old

@@ -3,12 +3,17 @@
 
 mod asked;
 mod depot;
+mod depot_call;
 mod entries;
+#[cfg(test)]
+mod failure_tests;
+mod failures;
 mod file_depot;
 mod held_files;
 mod mem_depot;
 mod mem_sink;
 mod mem_source;
+mod object_calls;
 mod reader_source;
 mod sink;
 mod source;
@@ -18,6 +23,7 @@ mod writer_sink;
 
 pub use asked::{Entry, Mark, Side};
 pub use depot::Depot;
+pub use depot_call::DepotCall;
 pub use file_depot::FileDepot;
 pub use mem_depot::MemDepot;
 pub use mem_sink::MemSink;

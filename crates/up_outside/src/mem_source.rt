@@ -1,6 +1,11 @@
-ghost use Rattle.std.specs.Prelude.{◌≡◌, ◌<◌, ◌≤◌, ◌+◌, ◌++◌, Some, length, min, take, refl};
+ghost use Rattle.std.specs.Prelude.{◌≡◌, ◌<◌, ◌≤◌, Some, length, min, take, refl, is_err, IfOk};
+ghost use Rattle.std.specs.Io.KnownBytes.{ReadConsumes};
+ghost use Rattle.up_outside.specs.Counts.{CountsWhere};
+ghost use Rattle.up_outside.specs.ObjectCalls.{calls_from, next_is_due, counted};
+ghost use Rattle.up_outside.specs.Streams.{Counts};
 
 use crate::Source;
+use crate::object_calls::ObjectCalls;
 use up_base::{Bytes, Failed};
 
 /// A source over bytes in memory.
@@ -10,7 +15,7 @@ pub struct MemSource {
     at: usize,
     most: usize,
     place: usize,
-    faults: u64,
+    calls: ObjectCalls,
     ghost in_range: { at ≤ length bytes },
     ghost gives: { 0 < most },
 }
@@ -26,40 +31,51 @@ fn copy_front(bytes: &[u8], room: &mut [u8], most: usize) -> usize
 }
 
 impl MemSource {
-    ghost use Rattle.up_outside.specs.MemSource.{source_left, source_moved, source_place, source_faults, source_most};
+    ghost use Rattle.up_outside.specs.MemSource.{source_left, source_moved, source_place, source_calls, source_faults};
+    ghost use Rattle.up_outside.specs.MemSource.{source_most, IsSameSource};
 
-    /// A source of these bytes, which gives at most so many a read and has its entry at the place.
-    pub(crate) fn new(bytes: Bytes, most: usize, place: usize) -> MemSource
+    /// A source of these bytes, which gives at most so many a read and has its entry at the place. The reads with the
+    /// numbers `failing` fail.
+    pub(crate) fn new(bytes: Bytes, most: usize, place: usize, failing: Vec<u64>) -> MemSource
         requires { 0 < most }
         ensures left { source_left result ≡ bytes }
         ensures most { source_most result ≡ most }
         ensures place { source_place result ≡ place }
         ensures moved { source_moved result ≡ 0 }
-        ensures faults { source_faults result ≡ 0 }
+        ensures calls { source_calls result ≡ calls_from failing }
     {
         MemSource {
             bytes,
             at: 0,
             most,
             place,
-            faults: 0,
+            calls: ObjectCalls::new(failing),
         }
     }
 
-    /// Moves the next bytes to the front of the room: as many as there are, as fit, and as a read gives at most.
-    fn give(&mut self, room: &mut [u8]) -> usize
-        ensures count { result
-            ≡ min (min (length (source_left self.old)) (length room.old)) (source_most self.old) }
-        ensures moved { source_moved self.new ≡ source_moved self.old + result }
-        ensures bytes { take result room.new ++ source_left self.new ≡ source_left self.old }
-        ensures place { source_place self.new ≡ source_place self.old }
-        ensures faults { source_faults self.new ≡ source_faults self.old }
-        ensures most { source_most self.new ≡ source_most self.old }
+    /// Moves the next bytes to the front of the room, unless the read is one that fails: as many as there are, as fit,
+    /// and as a read gives at most.
+    fn give(&mut self, room: &mut [u8]) -> Result<usize, Failed>
+        ensures count { IfOk result (λ n. n
+            ≡ min (min (length (source_left self.old)) (length room.new)) (source_most self.old)) }
+        ensures bytes { ReadConsumes
+            (Some (source_left self.old)) (Some (source_left self.new)) result room.new }
+        ensures sum { Counts (Some (source_moved self.old)) (Some (source_moved self.new)) result }
+        ensures fails { is_err result ≡ next_is_due (source_calls self.old) }
+        ensures calls { source_calls self.new ≡ counted (is_err result) (source_calls self.old) }
+        ensures counts { CountsWhere (is_err result)
+            (source_faults self.old) (source_faults self.new) }
+        ensures same { IsSameSource self.old self.new }
     {
+        if self.calls.next_is_due() {
+            self.calls.count(true);
+            return Err(Failed);
+        }
         let rest = &self.bytes.as_slice()[self.at..];
         let count = copy_front(rest, room, self.most);
         self.at += count;
-        count
+        self.calls.count(false);
+        Ok(count)
     }
 
     /// The place of its entry.
@@ -80,7 +96,7 @@ impl MemSource {
     pub(crate) fn faults(&self) -> u64
         ensures { result ≡ source_faults self.now }
     {
-        self.faults
+        self.calls.faults()
     }
 }
 
@@ -98,6 +114,6 @@ impl Source for MemSource {
     ghost together = { λ _. refl };
 
     fn read(&mut self, room: &mut [u8]) -> Result<usize, Failed> {
-        Ok(self.give(room))
+        self.give(room)
     }
 }

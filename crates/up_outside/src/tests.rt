@@ -1,6 +1,8 @@
 ghost use Rattle.std.specs.Prelude.{◌≡◌};
 
-use crate::{Depot, FileDepot, Mark, MemDepot, MemSink, Side, Sink, Source, StdErr, StdOut};
+use crate::{
+    Depot, DepotCall, FileDepot, Mark, MemDepot, MemSink, Side, Sink, Source, StdErr, StdOut,
+};
 use std::fs;
 use std::test::Fail;
 use up_base::{Failed, Refusal};
@@ -74,14 +76,22 @@ fn a_close_marks_the_entry_with_what_was_moved(rt: HostRuntime) -> Result<(), Fa
 }
 
 #[test]
-fn what_a_sink_was_given_lies_at_its_path_after_the_close(rt: HostRuntime) -> Result<(), Fail> {
+fn a_depot_keeps_what_is_written_and_fails_what_it_is_told(rt: HostRuntime) -> Result<(), Fail> {
     let mut depot = MemDepot::new(rt.alloc());
-    depot.hold("r", b"old")?;
+    assert!(rt; matches!(depot.open_source("q"), Err(Refusal::Failed)));
+    assert_eq!(rt; depot.source_faults(), 1);
+    depot.hold("q", b"abc")?;
+    assert!(rt; depot.open_source("q").is_ok());
     let mut sink = depot.open_sink("r")?;
-    assert_eq!(rt; write_once(&mut sink, b"ab")?, 2);
+    assert_eq!(rt; write_once(&mut sink, b"ab"), Ok(2));
     depot.close_sink("r", sink)?;
     assert_eq!(rt; depot.bytes("r"), Some(b"ab".as_slice()));
-    assert_eq!(rt; depot.sink_faults(), 0);
+    depot.fail(DepotCall::Write, "s", 1)?;
+    let mut sink = depot.open_sink("s")?;
+    assert_eq!(rt; write_once(&mut sink, b"ab"), Err(Refusal::Failed));
+    assert_eq!(rt; (depot.source_faults(), depot.sink_faults()), (1, 0));
+    depot.close_sink("s", sink)?;
+    assert_eq!(rt; (depot.source_faults(), depot.sink_faults()), (1, 1));
     Ok(())
 }
 

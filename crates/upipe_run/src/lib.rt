@@ -17,6 +17,8 @@ mod words;
 pub use program::{run, run_single};
 
 #[cfg(test)]
+mod fault_tests;
+#[cfg(test)]
 mod line_tests;
 #[cfg(test)]
 mod tests;

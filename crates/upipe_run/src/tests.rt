@@ -9,11 +9,15 @@ use up_base::{Text, WordList};
 use up_outside::{Mark, MemDepot, MemSink};
 
 /// The words that run the graph at `g.toml`.
-const RUN: [&str; 2] = ["run", "g.toml"];
+pub(crate) const RUN: [&str; 2] = ["run", "g.toml"];
 
 /// The text of a graph that copies from `i` to `o` through idle pipes of these names. The fields are added to those of
 /// the source.
-fn chain_text(alloc: Global, idle: &[&'static str], fields: &str) -> Result<String, Fail> {
+pub(crate) fn chain_text(
+    alloc: Global,
+    idle: &[&'static str],
+    fields: &str,
+) -> Result<String, Fail> {
     let mut text = format!(in alloc;
         "version = 1\npipe = [{{name = 'in', kind = 'source', path = 'i'{fields}}},\n"
     )?;
@@ -31,7 +35,7 @@ fn chain_text(alloc: Global, idle: &[&'static str], fields: &str) -> Result<Stri
 }
 
 /// So many bytes, no two neighbours of which are the same.
-fn numbered_bytes(alloc: Global, size: usize) -> Result<Vec<u8>, Fail> {
+pub(crate) fn numbered_bytes(alloc: Global, size: usize) -> Result<Vec<u8>, Fail> {
     let mut bytes = Vec::new(alloc);
     for place in 0..size {
         bytes.push((place % 251) as u8)?;
@@ -40,7 +44,7 @@ fn numbered_bytes(alloc: Global, size: usize) -> Result<Vec<u8>, Fail> {
 }
 
 /// A depot that holds the graph text at `g.toml`.
-fn depot_of(alloc: Global, graph: &[u8]) -> Result<MemDepot, Fail> {
+pub(crate) fn depot_of(alloc: Global, graph: &[u8]) -> Result<MemDepot, Fail> {
     let mut depot = MemDepot::new(alloc);
     depot.hold("g.toml", graph)?;
     Ok(depot)
@@ -60,7 +64,7 @@ fn status_of<R: Abort + Threads + Wait + Sync>(
 }
 
 /// The status of a run, whose line goes to `err`.
-fn told_status_of<R: Abort + Threads + Wait + Sync>(
+pub(crate) fn told_status_of<R: Abort + Threads + Wait + Sync>(
     rt: &R,
     alloc: Global,
     words: &[&'static str],

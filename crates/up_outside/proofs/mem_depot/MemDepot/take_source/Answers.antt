@@ -1,5 +1,5 @@
 use Rattle.up_outside.proofs.Rooms.{rooms-close}
-use Rattle.up_outside.proofs.mem_depot.MemDepotDepot.close_source.Goals as goal
+use Rattle.up_outside.proofs.mem_depot.MemDepot.take_source.Goals as goal
 
 pub invariant_of-self-clause-rooms : goal.invariant_of-self-clause-rooms
 invariant_of-self-clause-rooms c =
