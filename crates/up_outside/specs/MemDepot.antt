@@ -7,7 +7,7 @@ use Rattle.up_outside.specs.Asked.{opened}
 use Rattle.up_outside.specs.Counts.{is_failed, CountsWhere}
 use Rattle.up_outside.specs.Failures.{is_of_source, is_of_sink, calls_made, is_due, numbers_of}
 use Rattle.up_outside.specs.Held.{Held}
-use Rattle.up_outside.specs.ObjectCalls.{failing_of}
+use Rattle.up_outside.specs.ObjectCalls.{made_of, failing_of}
 use Rattle.up_outside.specs.declared.asked.Side.{Side}
 use Rattle.up_outside.specs.declared.depot_call.DepotCall.{DepotCall}
 use Rattle.up_outside.specs.declared.depot_call.DepotCall.TheVariants as calls
@@ -84,6 +84,7 @@ pub record IsNewSource (d : MemDepot) (path : List ℕ) (s : MemSource) : Type 0
   pub place : source_place s ≡ length (depot_asked d)
   pub moved : source_moved s ≡ 0
   pub faults : source_faults s ≡ 0
+  pub made : made_of (source_calls s) ≡ 0
   pub failing : failing_of (source_calls s) ≡ numbers_of calls.Read path (depot_failures d)
 
 -- a sink for the next entry, to which nothing was written
@@ -92,4 +93,5 @@ pub record IsNewSink (d : MemDepot) (path : List ℕ) (k : MemSink) : Type 0 whe
   pub most : sink_most k ≡ depot_most d
   pub place : sink_place k ≡ length (depot_asked d)
   pub faults : sink_faults k ≡ 0
+  pub made : made_of (sink_calls k) ≡ 0
   pub failing : failing_of (sink_calls k) ≡ numbers_of calls.Write path (depot_failures d)

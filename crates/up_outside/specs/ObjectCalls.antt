@@ -11,6 +11,10 @@ use Rattle.up_outside.specs.declared.object_calls.ObjectCalls.{ObjectCalls}
 abbrev pub calls_from : Vec ℕ Global → ObjectCalls
 calls_from failing = record { made = 0; failing = failing; faults = 0 }
 
+-- how many calls were made
+abbrev pub made_of : ObjectCalls → ℕ
+made_of calls = calls.made
+
 -- the numbers of the calls that fail
 abbrev pub failing_of : ObjectCalls → List ℕ
 failing_of calls = calls.failing.items

@@ -194,19 +194,6 @@ fn after_a_refused_open_nothing_is_left_open(rt: HostRuntime) -> Result<(), Fail
 }
 
 #[test]
-fn sources_are_opened_before_sinks(rt: HostRuntime) -> Result<(), Fail> {
-    let alloc = rt.alloc();
-    let mut depot = case_depot(alloc, b"abc")?;
-    let (status, _, _) = told_run(&rt, alloc, &mut depot)?;
-    assert_eq!(rt; status, 0);
-    for (entry, path) in depot.asked().iter().zip(["g.toml", "i", "o"]) {
-        assert_eq!(rt; entry.path.as_str(), path);
-    }
-    assert_eq!(rt; depot.asked().len(), 3);
-    Ok(())
-}
-
-#[test]
 fn a_sixth_read_that_fails_leaves_the_first_block(rt: HostRuntime) -> Result<(), Fail> {
     let alloc = rt.alloc();
     let bytes = numbered_bytes(alloc, 5_000)?;
