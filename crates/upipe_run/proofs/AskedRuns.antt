@@ -1,5 +1,5 @@
 -- What was asked, by how a run ended.
-use Rattle.std.proofs.Common.{◌≡◌, ◌≢◌, ◌⊎◌, inl, inr, ℕ, List, [], ◌∷◌, ◌++◌, Bool, true, false, not, ◌||◌, Option, Some, None, IfSome, Result, Ok, Err, OnOk, is_ok, refl, sym, ap, ◌∙◌, append-nil}
+use Rattle.std.proofs.Common.{◌≡◌, ◌⊎◌, inl, inr, ℕ, List, [], ◌∷◌, ◌++◌, Bool, true, false, not, ◌||◌, Option, Some, None, IfSome, Result, Ok, Err, OnOk, is_ok, refl, sym, ap, ◌∙◌, append-nil}
 use Rattle.up_base.specs.declared.refusal.Refusal.{Refusal}
 use Rattle.up_base.specs.declared.refusal.Refusal.TheVariants as refusals
 use Rattle.up_outside.specs.Asked.{entry, refused}

@@ -1,5 +1,5 @@
 -- What the run of a chain asked, and what it left as it was.
-use Rattle.std.proofs.Common.{◌≡◌, ◌≢◌, ◌⊎◌, inl, inr, ℕ, ◌-◌, List, [], ◌∷◌, length, Option, Some, None, IfSome, Result, Ok, Err, refl, sym, ap, subst, ◌∙◌}
+use Rattle.std.proofs.Common.{◌≡◌, inl, inr, ℕ, ◌-◌, List, [], ◌∷◌, length, Option, Some, None, IfSome, Result, Ok, Err, refl, sym, ap, subst, ◌∙◌}
 use Rattle.up_model.specs.Chain.{IsChain}
 use Rattle.up_model.specs.declared.form.SinkForm.TheVariants as sink_forms
 use Rattle.up_model.specs.declared.kind.Kind.TheVariants.{Sink}

@@ -8,8 +8,7 @@ use Rattle.up_model.specs.Outcomes.{outcome_of}
 use Rattle.up_model.specs.declared.form.SourceForm.{SourceForm}
 use Rattle.up_model.specs.declared.graph.Graph.{Graph}
 use Rattle.up_model.specs.declared.kind.Kind.{Kind}
-use Rattle.up_model.specs.declared.kind.Kind.TheVariants.{Source, Sink, Idem}
-use Rattle.up_model.specs.declared.outcome.Outcome.{Outcome}
+use Rattle.up_model.specs.declared.kind.Kind.TheVariants.{Source}
 use Rattle.up_model.specs.declared.outcome.Outcome.TheVariants as outcomes
 use Rattle.up_outside.specs.Counts.{Rose}
 use Rattle.up_outside.specs.Held.{Held}

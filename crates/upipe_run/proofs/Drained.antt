@@ -1,5 +1,5 @@
 -- What a line's sink was given.
-use Rattle.std.proofs.Common.{◌≡◌, ℕ, ◌≤◌, List, [], length, take, drop, Option, Ok, Err, sym, take-append-drop}
+use Rattle.std.proofs.Common.{ℕ, ◌≤◌, List, [], length, take, drop, Option, Ok, Err, sym, take-append-drop}
 use Rattle.std.specs.Prelude.{Result, OnOk, OnErr}
 use Rattle.std.specs.Io.KnownBytes.{Appends}
 use Rattle.std.proofs.lemmas.List.{append-nil}

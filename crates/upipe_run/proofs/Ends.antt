@@ -1,6 +1,5 @@
 -- The ends of a source are different.
 use Rattle.std.proofs.Common.{◌≢◌}
-use Rattle.upipe_run.specs.declared.flow.End.{End}
 use Rattle.upipe_run.specs.declared.flow.End.TheVariants.{Whole, ReadFault, TooLong}
 
 pub whole≢too_long : Whole ≢ TooLong

@@ -3,7 +3,6 @@ use Rattle.std.proofs.Common.{◌≡◌, ℕ, ◌+◌, List, [], ◌∷◌, ◌+
 use Rattle.up_base.specs.declared.refusal.Refusal.{Refusal}
 use Rattle.up_outside.specs.Asked.{entry, refused, with_mark, AsksOpen, IsOpenAt, Closes}
 use Rattle.up_outside.specs.declared.asked.Entry.{Entry}
-use Rattle.up_outside.specs.declared.asked.Side.{Side}
 use Rattle.up_outside.specs.declared.asked.Side.TheVariants.{Source, Sink}
 use Rattle.up_outside.specs.declared.asked.Mark.TheVariants.{Open, Closed}
 use Rattle.upipe_run.specs.Objects.{StaysTold}

@@ -1,5 +1,5 @@
 -- What the text of a graph file says of a fault.
-use Rattle.std.proofs.Common.{◌≡◌, ℕ, ◌<◌, ◌≤◌, List, length, take, Option, Some, None, IfSome, Result, Ok, Err, inl, inr, refl, sym, ap, ◌∙◌, arith, length-take}
+use Rattle.std.proofs.Common.{◌≡◌, ℕ, ◌<◌, List, length, Option, Some, None, IfSome, Result, Ok, Err, inl, inr, refl, sym, ap, ◌∙◌, arith, length-take}
 use Rattle.std.specs.FinMap.{get}
 use Rattle.std.proofs.lemmas.Bool.{cases_lt, lt-ltb}
 use Rattle.up_graph.specs.Answers.{Answers}
@@ -10,7 +10,7 @@ use Rattle.up_graph.specs.declared.graph_refused.GraphRefused.TheVariants as ref
 use Rattle.up_model.specs.declared.graph.Graph.{Graph}
 use Rattle.up_outside.specs.Held.{Held}
 use Rattle.upipe_run.specs.Causes.{IsChainFault, HasChainCause, AreAlike, HasNoGraph, HasBytesCause, SettlesNoGraph}
-use Rattle.upipe_run.specs.Asks.{EndsRefused, AsksText}
+use Rattle.upipe_run.specs.Asks.{EndsRefused}
 use Rattle.up_outside.specs.declared.asked.Entry.{Entry}
 use Rattle.upipe_run.specs.GraphText.{IsStartAt}
 use Rattle.upipe_run.specs.declared.fault.Fault.{Fault}

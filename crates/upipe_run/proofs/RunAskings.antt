@@ -1,7 +1,5 @@
 -- What the run of a graph file asked, by its text and its chain.
-use Rattle.std.proofs.Common.{◌≡◌, ℕ, suc, ◌<◌, List, [], ◌∷◌, ◌++◌, length, map, Option, Some, None, IfSome, Result, Ok, Err, slice_get, false, refl, sym, ap, subst, ◌∙◌, append_assoc}
-use Rattle.std.specs.FinMap.{get}
-use Rattle.up_base.specs.declared.refusal.Refusal.{Refusal}
+use Rattle.std.proofs.Common.{◌≡◌, ℕ, suc, ◌<◌, List, [], ◌∷◌, ◌++◌, length, map, Option, Some, None, IfSome, Result, Ok, Err, false, refl, sym, ap, subst, ◌∙◌, append_assoc}
 use Rattle.up_base.specs.declared.refusal.Refusal.TheVariants as refusals
 use Rattle.up_graph.specs.Graph.{graph_of}
 use Rattle.up_graph.specs.declared.graph_refused.GraphRefused.{GraphRefused}
@@ -10,9 +8,8 @@ use Rattle.up_model.specs.declared.pipe.Pipe.{Pipe}
 use Rattle.up_outside.specs.Asked.{entry}
 use Rattle.up_outside.specs.Held.{Held}
 use Rattle.up_outside.specs.declared.asked.Entry.{Entry}
-use Rattle.up_outside.specs.declared.asked.Mark.{Mark}
 use Rattle.up_outside.specs.declared.asked.Side.TheVariants.{Source}
-use Rattle.upipe_run.specs.Asks.{AsksText, EndsRefused, MarkAt, is_open}
+use Rattle.upipe_run.specs.Asks.{AsksText, EndsRefused, is_open}
 use Rattle.upipe_run.specs.ChainRuns.{KeepsNonSinks, AsksChain, FaultMarked, NoneOpen, AllAsked, paths_of}
 use Rattle.upipe_run.specs.Causes.{IsChainFault}
 use Rattle.upipe_run.specs.Flow.{IsPrefixOf}

@@ -4,8 +4,7 @@ use Rattle.up_base.specs.declared.refusal.NoMemory.{NoMemory as WantOfMemory}
 use Rattle.upipe_run.specs.declared.flow.End.{End}
 use Rattle.upipe_run.specs.declared.flow.End.TheVariants as ends
 use Rattle.upipe_run.specs.declared.flow.FlowEnd.{FlowEnd}
-use Rattle.upipe_run.specs.declared.verdict.Verdict.{Verdict}
-use Rattle.upipe_run.specs.declared.verdict.Verdict.TheVariants.{Whole, ReadFault, WriteFault, TooLong, NoMemory}
+use Rattle.upipe_run.specs.declared.verdict.Verdict.TheVariants.{Whole, ReadFault, WriteFault, TooLong}
 use Rattle.upipe_run.specs.Flow.{is_complete}
 use Rattle.upipe_run.specs.Verdicts.{verdict_by, verdict_of}
 

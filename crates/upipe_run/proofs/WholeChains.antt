@@ -1,5 +1,5 @@
 -- A chain whose bytes were copied has a whole output.
-use Rattle.std.proofs.Common.{◌≡◌, ℕ, zero, suc, ◌+◌, ◌-◌, ◌<◌, ◌≤◌, List, [], ◌∷◌, length, Option, Some, None, IfSome, slice_get, refl, sym, ap, ◌∙◌, add-one, arith, inl, inr}
+use Rattle.std.proofs.Common.{◌≡◌, ℕ, zero, suc, ◌+◌, ◌-◌, ◌<◌, ◌≤◌, List, [], ◌∷◌, length, Option, Some, None, IfSome, slice_get, refl, sym, ap, ◌∙◌, arith, inl, inr}
 use Rattle.std.specs.Prelude.{unwrap_or, option_and_then}
 use Rattle.std.specs.FinMap.{get}
 use Rattle.std.proofs.lemmas.Bool.{cases_lt, le-ltb}
@@ -20,7 +20,7 @@ use Rattle.up_outside.specs.Held.{Held}
 use Rattle.upipe_run.specs.Carried.{IsCopied}
 use Rattle.upipe_run.specs.ChainEnds.{HasEnds}
 use Rattle.upipe_run.specs.ChainRuns.{RanChain}
-use Rattle.upipe_run.specs.WholeOutput.{flow_of, flow_by, given_by, IsWholeSource, IsWholeSink, Copies, path_by, path_at}
+use Rattle.upipe_run.specs.WholeOutput.{flow_of, flow_by, given_by, IsWholeSource, IsWholeSink, Copies, path_by}
 use Rattle.upipe_run.specs.declared.chain.ChainEnds.{ChainEnds}
 
 pub below : (pipes : List Pipe) (place : ℕ) (pipe : Pipe) → slice_get pipes place ≡ Some pipe → place < length pipes

@@ -1,5 +1,5 @@
 -- Why a run isn't whole: what the bytes say, what was asked, and which count rose.
-use Rattle.std.specs.Prelude.{◌≡◌, ◌⊎◌, ℕ, ◌-◌, ◌≤◌, List, [], ◌∷◌, ◌++◌, length, slice_get, Option, Some, Result, Ok, Err, IsErrOf}
+use Rattle.std.specs.Prelude.{◌≡◌, ◌⊎◌, ℕ, ◌-◌, ◌≤◌, List, length, slice_get, Option, Some, Result, Ok, Err, IsErrOf}
 use Rattle.std.specs.FinMap.{get}
 use Rattle.up_graph.specs.Graph.{graph_of}
 use Rattle.up_graph.specs.declared.graph_refused.GraphRefused.{GraphRefused}

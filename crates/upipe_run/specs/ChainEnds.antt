@@ -1,5 +1,5 @@
 -- The two ends of a chain, and their fields.
-use Rattle.std.specs.Prelude.{◌≡◌, ℕ, ◌-◌, ◌<◌, ◌≤◌, List, length, slice_get, Some}
+use Rattle.std.specs.Prelude.{◌≡◌, ◌-◌, ◌<◌, ◌≤◌, List, length, slice_get, Some}
 use Rattle.up_model.specs.declared.form.SinkForm.TheVariants as sink_forms
 use Rattle.up_model.specs.declared.form.SourceForm.TheVariants as source_forms
 use Rattle.up_model.specs.declared.kind.Kind.TheVariants.{Source, Sink}

@@ -1,5 +1,5 @@
 -- What the run of a chain did.
-use Rattle.std.specs.Prelude.{◌≡◌, ◌≢◌, ℕ, List, [], ◌∷◌, ◌++◌, length, map, false, slice_get, Option, Some, None, Result, Ok, Err, filter_map}
+use Rattle.std.specs.Prelude.{◌≡◌, ◌≢◌, ℕ, List, ◌++◌, length, map, false, slice_get, Option, Some, None, Result, Ok, Err, filter_map}
 use Rattle.std.specs.FinMap.{get}
 use Rattle.std.specs.List.{AllByRecursion}
 use Rattle.up_model.specs.declared.form.SinkForm.{SinkForm}
@@ -12,7 +12,7 @@ use Rattle.upipe_run.specs.Asks.{is_open, has_failed, MarkAt}
 use Rattle.upipe_run.specs.Flow.{IsPrefixOf}
 use Rattle.upipe_run.specs.WholeOutput.{IsWholeOutput, Copies}
 use Rattle.upipe_run.specs.declared.fault.Fault.{Fault}
-use Rattle.upipe_run.specs.declared.fault.Fault.TheVariants.{Usage, Graph, ReadGraph, Read, Write, TooLong, NoMemory}
+use Rattle.upipe_run.specs.declared.fault.Fault.TheVariants.{Read, Write, TooLong, NoMemory}
 
 -- its output is whole, and its bytes are copied
 pub record RanChain (before : Held) (after : Option Held) (pipes : List Pipe) : Type 0 where

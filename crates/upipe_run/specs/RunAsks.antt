@@ -9,7 +9,7 @@ use Rattle.upipe_run.specs.Asks.{has_failed, MarkAt}
 use Rattle.upipe_run.specs.ChainRuns.{IsNoSinkPath, paths_of, NoneOpen, AllAsked}
 use Rattle.upipe_run.specs.Flow.{IsPrefixOf}
 use Rattle.upipe_run.specs.declared.fault.Fault.{Fault}
-use Rattle.upipe_run.specs.declared.fault.Fault.TheVariants.{Usage, Graph as NoGraph, ReadGraph, Read, Write, TooLong, NoMemory}
+use Rattle.upipe_run.specs.declared.fault.Fault.TheVariants.{Graph as NoGraph, ReadGraph, Read, Write}
 
 -- so it is of the graph of the text at the path, where there is one
 abbrev pub OfGraph : Held → List ℕ → (Graph → Type 0) → Type 0

@@ -1,5 +1,5 @@
 -- The verdict of a run, by how its flow ended.
-use Rattle.std.specs.Prelude.{ℕ, Bool, not, ◌&&◌, if◌then◌else◌, Result, Ok, Err}
+use Rattle.std.specs.Prelude.{Bool, not, ◌&&◌, if◌then◌else◌, Result, Ok, Err}
 use Rattle.up_base.specs.declared.refusal.NoMemory.{NoMemory as WantOfMemory}
 use Rattle.up_base.specs.declared.refusal.Refusal.{Refusal}
 use Rattle.up_base.specs.declared.refusal.Refusal.TheVariants as refusals

@@ -6,7 +6,7 @@ use Rattle.up_model.specs.Meaning.{Flow, sink_bytes}
 use Rattle.up_model.specs.Outcomes.{outcome_of, carried_flow}
 use Rattle.up_model.specs.declared.graph.Graph.{Graph}
 use Rattle.up_model.specs.declared.kind.Kind.{Kind}
-use Rattle.up_model.specs.declared.kind.Kind.TheVariants.{Source, Sink, Idem}
+use Rattle.up_model.specs.declared.kind.Kind.TheVariants.{Source, Sink}
 use Rattle.up_model.specs.declared.outcome.Outcome.TheVariants.{Whole}
 use Rattle.up_model.specs.declared.pipe.Pipe.{Pipe}
 use Rattle.up_outside.specs.Held.{Held}

@@ -1,4 +1,4 @@
-use Rattle.std.proofs.Common.{◌≡◌, ◌≤◌, ◌-◌, length, take}
+use Rattle.std.proofs.Common.{◌≤◌, ◌-◌, length, take}
 use Rattle.std.specs.Io.KnownBytes.{Appends}
 use Rattle.upipe_run.specs.Objects.{IsSameObject, StaysTold}
 use Rattle.upipe_run.proofs.drain.drain.Given as goal

@@ -1,4 +1,4 @@
-use Rattle.std.proofs.Common.{arith, ℕ, ◌≡◌, ◌+◌, ◌-◌, ◌≤◌, length, take, refl, ◌∙◌, length-take}
+use Rattle.std.proofs.Common.{arith, ℕ, ◌+◌, ◌-◌, ◌≤◌, refl, ◌∙◌, length-take}
 use Rattle.std.proofs.lemmas.Result.{err_from_is_err_and}
 use Rattle.upipe_run.proofs.Ends.{whole≢too_long, too_long≢whole, fault≢whole, fault≢too_long}
 use Rattle.upipe_run.proofs.Moved.{moves_nothing, moves_block, moves_unput, moves_incomplete}

@@ -1,4 +1,4 @@
-use Rattle.std.proofs.Common.{◌≡◌, true, nat_lt, arith}
+use Rattle.std.proofs.Common.{nat_lt, arith}
 use Rattle.std.proofs.lemmas.Bool.{lt-ltb}
 use Rattle.up_outside.specs.Counts.{Rose}
 use Rattle.upipe_run.proofs.AskedTexts.{asks_read, asks_failed}

@@ -1,4 +1,4 @@
-use Rattle.std.proofs.Common.{arith, ◌≡◌, ◌<◌, true, false, refl, sym, ◌∙◌, is_ok, nat_lt, not, ◌||◌}
+use Rattle.std.proofs.Common.{arith, ◌≡◌, refl, sym, ◌∙◌, is_ok, nat_lt, not, ◌||◌}
 use Rattle.std.proofs.lemmas.Bool.{lt-ltb}
 use Rattle.up_outside.specs.Counts.{Rose}
 use Rattle.upipe_run.specs.Carried.{IsCopied, IsTooLong, IsWithin}

@@ -1,6 +1,6 @@
-use Rattle.std.proofs.Common.{◌≡◌, ◌⊎◌, inl, inr, Ok, Err}
-use Rattle.upipe_run.proofs.Completions.{completes_told, completes_whole, settled_told, settled_whole}
-use Rattle.upipe_run.proofs.RunStatuses.{status_is_run, told_is_run}
+use Rattle.std.proofs.Common.{Err}
+use Rattle.upipe_run.proofs.Completions.{completes_told, settled_told}
+use Rattle.upipe_run.proofs.RunStatuses.{told_is_run}
 use Rattle.upipe_run.proofs.program.run_single.Goals as goal
 
 pub returns-in-Err-clause-status : goal.returns-in-Err-clause-status
