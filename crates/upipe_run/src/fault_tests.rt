@@ -173,14 +173,15 @@ fn each_call_that_fails_is_told_with_what_was_whole_before_it(rt: HostRuntime) -
 fn after_a_refused_open_nothing_is_left_open(rt: HostRuntime) -> Result<(), Fail> {
     let alloc = rt.alloc();
     let opens = [
-        (DepotCall::OpenSource, "g.toml", 1),
-        (DepotCall::OpenSource, "i", 2),
-        (DepotCall::OpenSink, "o", 3),
+        (DepotCall::OpenSource, "g.toml", 4, 1),
+        (DepotCall::OpenSource, "i", 4, 2),
+        (DepotCall::OpenSink, "o", 5, 3),
     ];
-    for (call, path, count) in opens {
+    for (call, path, answered, count) in opens {
         let mut depot = case_depot(alloc, b"abc")?;
         depot.fail(call, path, 1)?;
-        told_run(&rt, alloc, &mut depot)?;
+        let (status, _, _) = told_run(&rt, alloc, &mut depot)?;
+        assert_eq!(rt; status, answered, "{path}");
         let asked = depot.asked();
         assert_eq!(rt; asked.len(), count, "{path}");
         assert!(rt;
