@@ -29,14 +29,12 @@ filter_map-last h (p ∷ pipes) path (suc last) end none some =
     (filter_map-last h pipes path last (omega arith) (λ place pipe before. none (suc place) pipe (omega arith)) some)
 
 no_source : (kind : Kind) → IsRawSink kind → source_path kind ≡ None
-no_source (Source path form limit) is = absurd is
 no_source (Sink path form) is = refl
-no_source Idem is = absurd is
+no_source kind is = absurd is
 
 no_sink : (kind : Kind) → IsRawSource kind → sink_path kind ≡ None
 no_sink (Source path form limit) is = refl
-no_sink (Sink path form) is = absurd is
-no_sink Idem is = absurd is
+no_sink kind is = absurd is
 
 module _ (ends : ChainEnds) where
   later_no_source : (pipes : List Pipe) (place : ℕ) (pipe : Pipe) → IsChain pipes → slice_get pipes (suc place) ≡ Some pipe → source_path pipe.kind ≡ None

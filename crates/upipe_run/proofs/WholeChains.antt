@@ -32,14 +32,12 @@ pub same_pipe : (a b : Pipe) → Some a ≡ Some b → a ≡ b
 same_pipe a b same = cc
 
 sink_is_no_source : (held : Held) (kind : Kind) → IsRawSink kind → IsWholeSource held kind
-sink_is_no_source held (Source path form limit) is = absurd is
 sink_is_no_source held (Sink path form) is = tt
-sink_is_no_source held Idem is = tt
+sink_is_no_source held kind is = absurd is
 
 source_is_no_sink : (held : Held) (wanted : List ℕ) (kind : Kind) → IsRawSource kind → IsWholeSink held wanted kind
 source_is_no_sink held wanted (Source path form limit) is = tt
-source_is_no_sink held wanted (Sink path form) is = absurd is
-source_is_no_sink held wanted Idem is = absurd is
+source_is_no_sink held wanted kind is = absurd is
 
 abbrev path_of : Option Pipe → Option (List ℕ)
 path_of found = option_and_then (λ (pipe : Pipe). path_by pipe.kind) found
