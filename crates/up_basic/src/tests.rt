@@ -8,8 +8,8 @@ use std::process::Abort;
 use up_base::ItemList;
 use up_model::{Opt, Tally};
 use up_shape::{
-    Command, ControlRefused, LocalPacket, Module, Outbox, VecPacket, VecStore, feed_bytes,
-    give_up_all, run_flow,
+    Command, ControlRefused, LocalPacket, Module, Outbox, VecPacket, VecStore, feed_all,
+    feed_bytes, give_up_all, run_flow,
 };
 
 /// Feeds `ab`, an empty packet and `c`, and ends the flow. No option is there.
@@ -130,5 +130,11 @@ fn a_whole_flow_is_run_through_a_module(rt: HostRuntime) {
     assert_eq!(rt; out.tally().dropped, 3);
     assert!(rt; out.next().is_none());
     out.end();
+    let mut out = Outbox::new(rt.alloc());
+    let mut dup = DupPipe::new();
+    let flow = three(&rt, rt.alloc(), s);
+    assert_eq!(rt; feed_all(&mut dup, flow, &mut out, s), Ok(()));
+    assert_eq!(rt; dup.finish(&mut out, s), Ok(()));
+    assert_passed(&rt, out);
     give_up_all(three(&rt, rt.alloc(), s), s);
 }

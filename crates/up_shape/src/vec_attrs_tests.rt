@@ -102,6 +102,7 @@ fn a_second_packet_keeps_its_own_attributes(rt: HostRuntime) -> Result<(), Fail>
     assert_attrs(&rt, alloc, &later, &[("x", "Unsigned(8)")])?;
     assert_attrs(&rt, alloc, &packet, &[])?;
     assert_bytes(&rt, &double, b"abc");
-    assert_bytes(&rt, &later, b"abc");
+    assert_eq!(rt; later.bytes(), b"abc".as_slice());
+    assert_eq!(rt; (packet.attrs().len(), later.attrs().len()), (0, 1));
     Ok(())
 }
