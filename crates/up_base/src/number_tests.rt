@@ -19,6 +19,22 @@ fn numbers_are_put_with_the_highest_byte_first_and_read_back(rt: HostRuntime) ->
 }
 
 #[test]
+fn texts_digits_and_numbers_follow_each_other_in_a_byte_list(rt: HostRuntime) -> Result<(), Fail> {
+    let mut out = Bytes::from_slice(rt.alloc(), b"ab")?;
+    out.push(b'c')?;
+    out.append(b"d")?;
+    push_decimal(&mut out, 0)?;
+    put_u16(&mut out, 258)?;
+    put_u32(&mut out, 2)?;
+    put_u64(&mut out, 7)?;
+    let wanted = [
+        0x61, 0x62, 0x63, 0x64, 0x30, 1, 2, 0, 0, 0, 2, 0, 0, 0, 0, 0, 0, 0, 7,
+    ];
+    assert_eq!(rt; out.as_slice(), wanted.as_slice());
+    Ok(())
+}
+
+#[test]
 fn numbers_are_printed_in_shortest_decimal_digits(rt: HostRuntime) -> Result<(), Fail> {
     let table = [
         (0, "0"),
