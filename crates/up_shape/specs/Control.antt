@@ -19,7 +19,8 @@ got (Some setting) = Ok (Value setting.value)
 abbrev pub set_to : ℤ → Option Setting → Result Reply ControlRefused
 set_to value None = Err Unhandled
 set_to value (Some setting) =
-    if int_le setting.low value && int_le value setting.high then Ok Done else Err (Invalid setting.low setting.high)
+    if int_le setting.low value && int_le value setting.high
+    then Ok Done else Err (Invalid setting.low setting.high)
 
 -- what the command is answered
 abbrev pub answer_to : Kind → Command → Result Reply ControlRefused
@@ -34,7 +35,8 @@ kind_where kind option value (Err refused) = kind
 -- the kind after the command
 abbrev pub kind_after : Kind → Command → Kind
 kind_after kind (Get option) = kind
-kind_after kind (Set option value) = kind_where kind option value (answer_to kind (Set option value))
+kind_after kind (Set option value) =
+    kind_where kind option value (answer_to kind (Set option value))
 
 -- the command sets an option
 abbrev pub Sets : Command → Type 0

@@ -8,7 +8,8 @@ use Rattle.up_model.specs.declared.tally.Tally.{Tally}
 use Rattle.up_shape.specs.Outgoing.{Outgoing}
 
 -- the outbox grew by what the work grew by, in packets and in sums
-pub record Grew {P : Type 0} (plain : P → PlainPacket) (old new : Outgoing P) (before after : Work) : Type 0 where
+pub record Grew {P : Type 0} (plain : P → PlainPacket) (old new : Outgoing P)
+    (before after : Work) : Type 0 where
   pub given : List P
   pub counted : Tally
   pub packets : new.packets ≡ old.packets ++ given
@@ -17,7 +18,8 @@ pub record Grew {P : Type 0} (plain : P → PlainPacket) (old new : Outgoing P) 
   pub sums : after.tally ≡ plus before.tally counted
 
 -- the packets by which the outbox grew are the first of those by which the work would have grown
-pub record GrewInPart {P : Type 0} (plain : P → PlainPacket) (old new : Outgoing P) (before after : Work) : Type 0 where
+pub record GrewInPart {P : Type 0} (plain : P → PlainPacket) (old new : Outgoing P)
+    (before after : Work) : Type 0 where
   pub given : List P
   pub lacking : Flow
   pub packets : new.packets ≡ old.packets ++ given

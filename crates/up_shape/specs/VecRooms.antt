@@ -20,6 +20,8 @@ abbrev pub LendsRoom : MutBor VecRoom → MutBor (List ℕ) → Fml
 LendsRoom room loan = Lends the_row (Array u8 0) room loan (refilled_with room.now)
 
 -- what is written to a room is then its content
-pub content_of-refilled_with : (room : VecRoom) (bytes : List ℕ) → length bytes ≡ length (content_of room)
+pub content_of-refilled_with : (room : VecRoom) (bytes : List ℕ)
+    → length bytes ≡ length (content_of room)
     → content_of (refilled_with room bytes) ≡ bytes
-content_of-refilled_with room bytes same = with_items_is room.bytes bytes (same ∙ sym room.bytes.ok.0)
+content_of-refilled_with room bytes same =
+    with_items_is room.bytes bytes (same ∙ sym room.bytes.ok.0)

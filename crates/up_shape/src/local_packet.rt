@@ -47,7 +47,8 @@ pub trait LocalPacket: Sized {
 
     /// The bytes of the room, to be written.
     fn room_bytes(r: &mut Self::Room) -> &mut [u8]
-        ensures* writes_back { sem 𝓛 (Lends Self.Room.row (Array u8 0) r.entry result (refilled r.old)) }
+        ensures* writes_back { sem 𝓛 (Lends Self.Room.row (Array u8 0)
+            r.entry result (refilled r.old)) }
         ensures value { result.now ≡ content r.old };
 
     /// A packet of the first bytes of the room, without attributes.
@@ -163,7 +164,8 @@ pub trait LocalPacket: Sized {
     /// Adds the bytes of another packet at the end, up to 2^31 - 1 in all, and gives up its attributes.
     fn add(&mut self, other: Self, s: &mut Self::Store) -> Result<(), NoRoom<Self>>
         requires size { length (plain self.old).bytes + length (plain other).bytes < 2 ^ 31 }
-        requires family { fits self.old (Self.Store.family s.old) × fits other (Self.Store.family s.old) }
+        requires family { fits self.old (Self.Store.family s.old)
+            × fits other (Self.Store.family s.old) }
         ensures added { OnOk result (plain self.new ≡ record (plain self.old) {
           bytes = (plain self.old).bytes ++ (plain other).bytes;
         }) }

@@ -30,10 +30,12 @@ pub trait Module<P: LocalPacket>: Sized {
         ensures stands { (fed : Flow) → stands self.old fed
             → OnOk result (stands self.new (fed ++ P.plain p ∷ [])) }
         ensures grew { (fed : Flow) → stands self.old fed
-            → OnOk result (Grew P.plain out.old out.new (settled_work (kind self.old) fed)
+            → OnOk result (Grew P.plain out.old out.new
+            (settled_work (kind self.old) fed)
             (settled_work (kind self.old) (fed ++ P.plain p ∷ []))) }
         ensures in_part { (fed : Flow) → stands self.old fed
-            → OnErr result (GrewInPart P.plain out.old out.new (settled_work (kind self.old) fed)
+            → OnErr result (GrewInPart P.plain out.old out.new
+            (settled_work (kind self.old) fed)
             (settled_work (kind self.old) (fed ++ P.plain p ∷ []))) }
         ensures kind { kind self.new ≡ kind self.old }
         ensures family { AreOf P.fits (agrees self.new) out.new.packets (P.Store.family s.old) }
@@ -43,9 +45,11 @@ pub trait Module<P: LocalPacket>: Sized {
     fn finish(self, out: &mut Outbox<P>, s: &mut P::Store) -> Result<(), NoMemory>
         requires family { AreOf P.fits (agrees self) out.old.packets (P.Store.family s.old) }
         ensures grew { (fed : Flow) → stands self fed
-            → OnOk result (Grew P.plain out.old out.new (settled_work (kind self) fed) (work_of (kind self) fed)) }
+            → OnOk result (Grew P.plain out.old out.new
+            (settled_work (kind self) fed) (work_of (kind self) fed)) }
         ensures in_part { (fed : Flow) → stands self fed
-            → OnErr result (GrewInPart P.plain out.old out.new (settled_work (kind self) fed) (work_of (kind self) fed)) }
+            → OnErr result (GrewInPart P.plain out.old out.new
+            (settled_work (kind self) fed) (work_of (kind self) fed)) }
         ensures family { All (λ p. P.fits p (P.Store.family s.old)) out.new.packets }
         ensures store { Stays P.Store.family P.Store.kept P.Store.drawn s.old s.new };
 
