@@ -48,64 +48,63 @@ fn the_nearest_probe_that_has_the_kind_catches_and_else_the_root(
     Ok(())
 }
 
+/// One probe a kind, the last kind nearest.
+const SETS: [CatchSet; 4] = [
+    CatchSet {
+        lost: true,
+        ..NOTHING
+    },
+    CatchSet {
+        sync: true,
+        ..NOTHING
+    },
+    CatchSet {
+        cut: true,
+        ..NOTHING
+    },
+    CatchSet {
+        drop: true,
+        ..NOTHING
+    },
+];
+
+const NO_SUMS: Tally = Tally {
+    taken: 0,
+    put: 0,
+    dropped: 0,
+    cut: 0,
+    gained: 0,
+    lost: 0,
+};
+
+/// Events, each with the place of the probe that catches it and what that probe then has.
+const EVENTS: [(Event, usize, Tally); 4] = [
+    (
+        Event::Drop { packets: 5 },
+        3,
+        Tally {
+            dropped: 5,
+            ..NO_SUMS
+        },
+    ),
+    (Event::Cut { bytes: 6 }, 2, Tally { cut: 6, ..NO_SUMS }),
+    (
+        Event::SyncGained,
+        1,
+        Tally {
+            gained: 1,
+            ..NO_SUMS
+        },
+    ),
+    (Event::SyncLost, 0, Tally { lost: 1, ..NO_SUMS }),
+];
+
 #[test]
 fn each_kind_is_caught_by_the_set_that_has_it_and_added_to_its_sum(
     rt: HostRuntime,
 ) -> Result<(), Fail> {
-    let sets = [
-        CatchSet {
-            lost: true,
-            ..NOTHING
-        },
-        CatchSet {
-            sync: true,
-            ..NOTHING
-        },
-        CatchSet {
-            cut: true,
-            ..NOTHING
-        },
-        CatchSet {
-            drop: true,
-            ..NOTHING
-        },
-    ];
-    let events = [
-        (
-            Event::Drop { packets: 5 },
-            3,
-            Tally {
-                dropped: 5,
-                ..Tally::default()
-            },
-        ),
-        (
-            Event::Cut { bytes: 6 },
-            2,
-            Tally {
-                cut: 6,
-                ..Tally::default()
-            },
-        ),
-        (
-            Event::SyncGained,
-            1,
-            Tally {
-                gained: 1,
-                ..Tally::default()
-            },
-        ),
-        (
-            Event::SyncLost,
-            0,
-            Tally {
-                lost: 1,
-                ..Tally::default()
-            },
-        ),
-    ];
-    for (event, depth, tally) in events {
-        let mut chain = ProbeChain::new(rt.alloc(), &sets)?;
+    for (event, depth, tally) in EVENTS {
+        let mut chain = ProbeChain::new(rt.alloc(), &SETS)?;
         assert_eq!(rt; chain.throw(event), Caught { depth });
         assert!(rt; depth <= 4);
         assert_eq!(rt; chain.tally(depth), tally, "{event:?}");

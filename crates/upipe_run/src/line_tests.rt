@@ -2,6 +2,7 @@ use crate::fault::Fault;
 use crate::line::fault_line;
 use crate::tell::tell;
 use std::alloc::Global;
+use std::process::Abort;
 use std::test::Fail;
 use up_base::{NoMemory, PipeName, Text};
 use up_graph::GraphRefused;
@@ -12,36 +13,49 @@ fn bad_field(alloc: Global, pipe: u16, field: &str) -> Result<Fault, NoMemory> {
     Ok(Fault::Graph(GraphRefused::BadField { pipe, field }))
 }
 
+/// Each fault has its line.
+fn assert_lines(
+    rt: &impl Abort,
+    alloc: Global,
+    table: &[(Fault, &'static str)],
+) -> Result<(), Fail> {
+    for (fault, wanted) in table {
+        let line = fault_line(alloc, fault)?;
+        assert_eq!(rt; line.as_slice(), wanted.as_bytes());
+    }
+    Ok(())
+}
+
 #[test]
-fn each_fault_has_its_line(rt: HostRuntime) -> Result<(), Fail> {
+fn each_refusal_of_a_graph_has_its_line(rt: HostRuntime) -> Result<(), Fail> {
     let alloc = rt.alloc();
-    let capture = PipeName::read(b"capture")?;
-    let archive = PipeName::read(b"archive")?;
-    let table = [
+    let refusals = [
         (
-            Fault::Usage,
-            "usage: upipe check GRAPH | upipe run [--single] [--pool] GRAPH | upipe work [--single] N\n",
-        ),
-        (
-            Fault::Graph(GraphRefused::TooBig { len: 1_048_577 }),
+            GraphRefused::TooBig { len: 1_048_577 },
             "upipe: graph: too big\n",
         ),
+        (GraphRefused::NotToml, "upipe: graph: not toml\n"),
         (
-            Fault::Graph(GraphRefused::NotToml),
-            "upipe: graph: not toml\n",
-        ),
-        (
-            Fault::Graph(GraphRefused::BadVersion { got: Some(2) }),
+            GraphRefused::BadVersion { got: Some(2) },
             "upipe: graph: bad version\n",
         ),
+        (GraphRefused::NoPipes, "upipe: graph: no pipes\n"),
         (
-            Fault::Graph(GraphRefused::NoPipes),
-            "upipe: graph: no pipes\n",
-        ),
-        (
-            Fault::Graph(GraphRefused::TooManyPipes { count: 257 }),
+            GraphRefused::TooManyPipes { count: 257 },
             "upipe: graph: too many pipes: 257\n",
         ),
+        (GraphRefused::NoMemory, "upipe: out of memory\n"),
+    ];
+    for (refused, wanted) in refusals {
+        assert_lines(&rt, alloc, &[(Fault::Graph(refused), wanted)])?;
+    }
+    Ok(())
+}
+
+#[test]
+fn the_line_of_a_wrong_field_shows_its_bytes(rt: HostRuntime) -> Result<(), Fail> {
+    let alloc = rt.alloc();
+    let table = [
         (
             bad_field(alloc, 0, "pipes")?,
             "upipe: graph: top: bad field pipes\n",
@@ -54,10 +68,20 @@ fn each_fault_has_its_line(rt: HostRuntime) -> Result<(), Fail> {
             bad_field(alloc, 1, "a\t\\\u{7f}é ~")?,
             "upipe: graph: pipe 1: bad field a\\x09\\x5c\\x7f\\xc3\\xa9 ~\n",
         ),
-        (
-            Fault::Graph(GraphRefused::NoMemory),
-            "upipe: out of memory\n",
-        ),
+    ];
+    assert_lines(&rt, alloc, &table)
+}
+
+const USAGE: &str =
+    "usage: upipe check GRAPH | upipe run [--single] [--pool] GRAPH | upipe work [--single] N\n";
+
+#[test]
+fn each_other_fault_has_its_line(rt: HostRuntime) -> Result<(), Fail> {
+    let alloc = rt.alloc();
+    let capture = PipeName::read(b"capture")?;
+    let archive = PipeName::read(b"archive")?;
+    let table = [
+        (Fault::Usage, USAGE),
         (Fault::ReadGraph, "upipe: read fault: graph\n"),
         (Fault::Read(capture), "upipe: read fault: pipe capture\n"),
         (Fault::Write(archive), "upipe: write fault: pipe archive\n"),
@@ -70,11 +94,7 @@ fn each_fault_has_its_line(rt: HostRuntime) -> Result<(), Fail> {
         ),
         (Fault::NoMemory, "upipe: out of memory\n"),
     ];
-    for (fault, wanted) in &table {
-        let line = fault_line(alloc, fault)?;
-        assert_eq!(rt; line.as_slice(), wanted.as_bytes());
-    }
-    Ok(())
+    assert_lines(&rt, alloc, &table)
 }
 
 #[test]
