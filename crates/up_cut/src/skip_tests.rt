@@ -1,5 +1,6 @@
 use crate::Skip;
 use std::process::Abort;
+use up_base::NoMemory;
 use up_model::{Opt, Tally};
 use up_shape::{Command, ControlRefused, Module, Outbox, Reply, VecPacket, VecStore, feed_bytes};
 
@@ -11,14 +12,38 @@ fn assert_next(rt: &impl Abort, out: &mut Outbox<VecPacket>, wanted: &[u8]) {
     }
 }
 
+/// Asks a module through the bound. It was fed nothing.
+fn asked<M: Module<VecPacket>>(
+    rt: &impl Abort,
+    m: &mut M,
+    command: Command,
+) -> Result<Reply, ControlRefused> {
+    assert!(rt; m.fresh());
+    m.control(command)
+}
+
+/// Ends the flow of a module whole, through the bound.
+fn finish<M: Module<VecPacket>>(
+    m: M,
+    out: &mut Outbox<VecPacket>,
+    s: &mut VecStore,
+) -> Result<(), NoMemory>
+    requires { M.agrees m tt }
+{
+    m.finish(out, s)
+}
+
+/// Ends the flow of a module broken, through the bound.
+fn give_up<M: Module<VecPacket>>(m: M, s: &mut VecStore)
+    requires { M.agrees m tt }
+{
+    m.give_up(s);
+}
+
 /// Sets how many bytes are taken off.
 fn set_offset(rt: &impl Abort, skip: &mut Skip, bytes: i128) {
     let set = Command::Set(Opt::Offset, bytes);
-    assert!(rt; <Skip as Module<VecPacket>>::fresh(skip));
-    assert_eq!(rt;
-        <Skip as Module<VecPacket>>::control(skip, set),
-        Ok(Reply::Done)
-    );
+    assert_eq!(rt; asked(rt, skip, set), Ok(Reply::Done));
 }
 
 #[test]
@@ -31,7 +56,7 @@ fn skip_drops_short_packets_and_takes_the_first_bytes_of_others(rt: HostRuntime)
     assert_eq!(rt; feed_bytes(&mut skip, b"abc", &mut out, s), Ok(()));
     assert_eq!(rt; feed_bytes(&mut skip, b"abcd", &mut out, s), Ok(()));
     assert!(rt; !<Skip as Module<VecPacket>>::fresh(&skip));
-    assert_eq!(rt; skip.finish(&mut out, s), Ok(()));
+    assert_eq!(rt; finish(skip, &mut out, s), Ok(()));
     assert_eq!(rt; out.len(), 2);
     assert_next(&rt, &mut out, b"");
     assert_next(&rt, &mut out, b"d");
@@ -57,7 +82,7 @@ fn skip_cuts_blocks_of_three_to_their_last_byte(rt: HostRuntime) {
     assert_eq!(rt; feed_bytes(&mut skip, b"abc", &mut out, s), Ok(()));
     assert_eq!(rt; feed_bytes(&mut skip, b"def", &mut out, s), Ok(()));
     assert_eq!(rt; feed_bytes(&mut skip, b"g", &mut out, s), Ok(()));
-    <Skip as Module<VecPacket>>::give_up(skip, s);
+    give_up(skip, s);
     assert_next(&rt, &mut out, b"c");
     assert_next(&rt, &mut out, b"f");
     let counted = Tally {
@@ -98,11 +123,7 @@ const COMMANDS: [(Command, Result<Reply, ControlRefused>); 10] = [
 fn the_offset_of_skip_is_set_within_its_bounds(rt: HostRuntime) {
     let mut skip = Skip::new();
     for (command, answer) in COMMANDS {
-        assert!(rt; <Skip as Module<VecPacket>>::fresh(&skip));
-        assert_eq!(rt;
-            <Skip as Module<VecPacket>>::control(&mut skip, command),
-            answer
-        );
+        assert_eq!(rt; asked(&rt, &mut skip, command), answer);
     }
-    <Skip as Module<VecPacket>>::give_up(skip, &mut VecStore::new(rt.alloc()));
+    give_up(skip, &mut VecStore::new(rt.alloc()));
 }

@@ -3,7 +3,8 @@ use Rattle.std.proofs.Common.{◌≡◌, ◌-◌, ◌^◌, [], ◌∷◌, true, 
 use Rattle.up_model.specs.declared.catch_set.CatchSet.{CatchSet}
 use Rattle.up_model.specs.declared.event_kind.EventKind.TheVariants.{Drop, Cut, Sync, Lost}
 use Rattle.up_probe.specs.Chain.{catching_depth}
-use Rattle.up_probe.specs.Event.{kind_of, no_events, with_event}
+use Rattle.up_model.specs.Tallies.{nothing as no_sums}
+use Rattle.up_probe.specs.Event.{kind_of, with_event}
 use Rattle.up_probe.specs.declared.event.Event.TheVariants as events
 
 abbrev nothing : CatchSet
@@ -25,8 +26,8 @@ root_alone = refl
 pub gained_is_of_kind_sync : kind_of events.SyncGained ≡ Sync
 gained_is_of_kind_sync = refl
 
-pub drops_add_up : (with_event (events.Drop 3) (with_event (events.Drop 4) no_events)).dropped ≡ 7
+pub drops_add_up : (with_event (events.Drop 3) (with_event (events.Drop 4) no_sums)).dropped ≡ 7
 drops_add_up = refl
 
-pub sum_stops : (with_event (events.Cut 9) (record no_events { cut = 2 ^ 64 - 2 })).cut ≡ 2 ^ 64 - 1
+pub sum_stops : (with_event (events.Cut 9) (record no_sums { cut = 2 ^ 64 - 2 })).cut ≡ 2 ^ 64 - 1
 sum_stops = refl

@@ -1,5 +1,6 @@
 -- Events: their kinds, the sets that catch them, and the sums that they are added to.
-use Rattle.std.specs.Prelude.{ℕ, ◌+◌, ◌-◌, ◌^◌, Bool, min}
+use Rattle.std.specs.Prelude.{Bool}
+use Rattle.up_model.specs.Tallies.{more}
 use Rattle.up_model.specs.declared.catch_set.CatchSet.{CatchSet}
 use Rattle.up_model.specs.declared.event_kind.EventKind.{EventKind}
 use Rattle.up_model.specs.declared.event_kind.EventKind.TheVariants as kinds
@@ -21,17 +22,9 @@ catches kinds.Cut set = set.cut
 catches kinds.Sync set = set.sync
 catches kinds.Lost set = set.lost
 
--- the tally of one that caught nothing
-abbrev pub no_events : Tally
-no_events = record { taken = 0; put = 0; dropped = 0; cut = 0; gained = 0; lost = 0 }
-
--- a sum, which stops at 2^64 - 1
-abbrev pub stopped_sum : ℕ → ℕ → ℕ
-stopped_sum a b = min (a + b) (2 ^ 64 - 1)
-
 -- the tally with the event added to the sum of its kind
 abbrev pub with_event : Event → Tally → Tally
-with_event (Drop packets) tally = record tally { dropped = stopped_sum tally.dropped packets }
-with_event (Cut bytes) tally = record tally { cut = stopped_sum tally.cut bytes }
-with_event SyncGained tally = record tally { gained = stopped_sum tally.gained 1 }
-with_event SyncLost tally = record tally { lost = stopped_sum tally.lost 1 }
+with_event (Drop packets) tally = record tally { dropped = more tally.dropped packets }
+with_event (Cut bytes) tally = record tally { cut = more tally.cut bytes }
+with_event SyncGained tally = record tally { gained = more tally.gained 1 }
+with_event SyncLost tally = record tally { lost = more tally.lost 1 }

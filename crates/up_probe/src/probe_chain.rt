@@ -1,6 +1,7 @@
 ghost use Rattle.std.specs.Prelude.{◌≡◌, ℕ, ◌≤◌, length, IfOk};
 ghost use Rattle.up_probe.specs.Chain.{IsAdded, catching_depth, tally_at};
-ghost use Rattle.up_probe.specs.Event.{kind_of, no_events};
+ghost use Rattle.up_model.specs.Tallies.{nothing};
+ghost use Rattle.up_probe.specs.Event.{kind_of};
 
 use crate::catching::catching_probe;
 use crate::sums::add;
@@ -34,7 +35,7 @@ impl ProbeChain {
     pub fn new(alloc: Global, sets: &[CatchSet]) -> Result<ProbeChain, NoMemory>
         ensures sets { IfOk result (λ chain. chain.sets ≡ sets.now) }
         ensures nothing_caught { IfOk result (λ chain.
-            (depth : ℕ) → tally_at chain depth ≡ no_events) }
+            (depth : ℕ) → tally_at chain depth ≡ nothing) }
     {
         Ok(ProbeChain {
             sets: Vec::from_slice(alloc, sets)?,
