@@ -1,3 +1,4 @@
+pub mod Lists
 pub mod Name
 pub mod NameOf
 pub mod NameText
