@@ -29,6 +29,8 @@ pub use transport::{NULL_PID, SYNC_BYTE, TS_SIZE, pid_of};
 pub use word_list::WordList;
 
 #[cfg(test)]
+mod list_tests;
+#[cfg(test)]
 mod number_tests;
 #[cfg(test)]
 mod tests;
