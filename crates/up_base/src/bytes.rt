@@ -29,7 +29,6 @@ impl Bytes {
         }
     }
 
-    /// A copy of these bytes.
     pub fn from_slice(alloc: Global, b: &[u8]) -> Result<Bytes, NoMemory>
         ensures { IfOk result (λ bytes. bytes ≡ b.now) }
     {
@@ -38,7 +37,6 @@ impl Bytes {
         })
     }
 
-    /// Adds one byte at the end.
     pub fn push(&mut self, b: u8) -> Result<(), NoMemory>
         ensures added { OnOk result (AddsItem b self.old self.new) }
         ensures unchanged { OnErr result (self.new ≡ self.old) }
@@ -47,7 +45,6 @@ impl Bytes {
         Ok(())
     }
 
-    /// Adds these bytes at the end.
     pub fn append(&mut self, b: &[u8]) -> Result<(), NoMemory>
         ensures added { OnOk result (self.new ≡ self.old ++ b.now) }
         ensures unchanged { OnErr result (self.new ≡ self.old) }
@@ -56,7 +53,6 @@ impl Bytes {
         Ok(())
     }
 
-    /// The bytes.
     pub fn as_slice(&self) -> &[u8]
         ensures { result.now ≡ self.now }
     {

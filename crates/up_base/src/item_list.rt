@@ -39,7 +39,6 @@ impl<T> ItemList<T> {
         }
     }
 
-    /// Adds an item at the end.
     pub fn push(&mut self, item: T) -> Result<(), NoRoom<T>>
         ensures added { OnOk result (AddsItem item self.old self.new) }
         ensures unchanged { OnErr result (self.new ≡ self.old) }
@@ -53,7 +52,6 @@ impl<T> ItemList<T> {
         }
     }
 
-    /// How many items there are.
     pub fn len(&self) -> usize
         ensures { result ≡ length self.now }
     {
@@ -68,14 +66,12 @@ impl<T> ItemList<T> {
         &self.queue[i]
     }
 
-    /// Takes out the first item.
     pub fn next(&mut self) -> Option<T>
         ensures { TakesFirst self.old self.new result }
     {
         self.queue.pop_front()
     }
 
-    /// Gives up the list, which is empty.
     pub fn end(self)
         requires { self ≡ [] }
     {

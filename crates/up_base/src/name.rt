@@ -45,7 +45,6 @@ impl<Of> Model for Name<Of> {
 }
 
 impl<Of> Name<Of> {
-    /// The name that the text spells.
     pub fn read(text: &[u8]) -> Result<Name<Of>, BadName>
         ensures { result ≡ name_of text.now }
     {
@@ -56,7 +55,6 @@ impl<Of> Name<Of> {
         })
     }
 
-    /// The text of the name.
     pub fn bytes(&self) -> &[u8]
         ensures bytes { result.now ≡ self.now }
         ensures name { is_name result.now ≡ true }

@@ -57,7 +57,6 @@ impl Model for NameText {
 impl NameText {
     ghost use Rattle.up_base.specs.NameOf.{name_of};
 
-    /// The name that the text spells.
     #[tactic(auto, unfolding(crate::specs::NameOf::name_of))]
     pub fn read(text: &[u8]) -> Result<NameText, BadName>
         ensures { result ≡ name_of text.now }
@@ -86,7 +85,6 @@ impl NameText {
         }
     }
 
-    /// The text of the name.
     pub fn bytes(&self) -> &[u8]
         ensures bytes { result.now ≡ self.now }
         ensures name { is_name result.now ≡ true }

@@ -19,6 +19,25 @@ fn bytes_and_texts_hold_what_they_were_given(rt: HostRuntime) -> Result<(), Fail
     Ok(())
 }
 
+#[test]
+fn texts_and_byte_lists_of_a_mebibyte_are_kept(rt: HostRuntime) -> Result<(), Fail> {
+    let alloc = rt.alloc();
+    let mut bytes = Bytes::new(alloc);
+    for _ in 0..524_288 {
+        bytes.append("\u{e9}".as_bytes())?;
+    }
+    let spelled = std::str::from_utf8(bytes.as_slice()).map_err(|_| "not UTF-8")?;
+    assert_eq!(rt; spelled.len(), 1_048_576);
+    let text = Text::from_str(alloc, spelled)?;
+    assert_eq!(rt; text.as_str(), spelled);
+    assert_eq!(rt; text.as_slice(), bytes.as_slice());
+    let mut copy = Bytes::from_slice(alloc, text.as_slice())?;
+    copy.push(b'x')?;
+    assert_eq!(rt; copy.as_slice().len(), 1_048_577);
+    assert_eq!(rt; copy.as_slice().get(1_048_576), Some(&b'x'));
+    Ok(())
+}
+
 const NAME_BYTES: &[u8] = b"ABCDEFGHIJKLMNOPQRSTUVWXYZabcdefghijklmnopqrstuvwxyz0123456789._-";
 
 /// The text was read as itself, or was refused at this place.

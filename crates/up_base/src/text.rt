@@ -20,7 +20,6 @@ impl Model for Text {
 }
 
 impl Text {
-    /// A copy of this text.
     pub fn from_str(alloc: Global, s: &str) -> Result<Text, NoMemory>
         ensures { IfOk result (λ text. text ≡ s.now) }
     {
@@ -29,7 +28,6 @@ impl Text {
         })
     }
 
-    /// The text's bytes.
     #[tactic(auto, using(crate::proofs::Texts::text_is_utf8))]
     pub fn as_slice(&self) -> &[u8]
         ensures bytes { result.now ≡ self.now }
@@ -38,7 +36,6 @@ impl Text {
         self.words.as_bytes()
     }
 
-    /// The text.
     #[tactic(auto, using(crate::proofs::Texts::text_is_utf8))]
     pub fn as_str(&self) -> &str
         ensures bytes { result.now ≡ self.now }

@@ -29,7 +29,6 @@ impl WordList {
         }
     }
 
-    /// Adds a word at the end.
     pub fn push(&mut self, item: Text) -> Result<(), NoRoom<Text>>
         ensures added { OnOk result (AddsItem item self.old self.new) }
         ensures unchanged { OnErr result (self.new ≡ self.old) }
@@ -43,7 +42,6 @@ impl WordList {
         }
     }
 
-    /// How many words there are.
     pub fn len(&self) -> usize
         ensures { result ≡ length self.now }
     {
@@ -58,7 +56,6 @@ impl WordList {
         &self.words[i]
     }
 
-    /// All the words.
     pub fn as_slice(&self) -> &[Text]
         ensures { result.now ≡ self.now }
     {
@@ -75,7 +72,6 @@ impl WordList {
         Some(self.words.remove(0))
     }
 
-    /// Gives up the list, which is empty.
     pub fn end(self)
         requires { self ≡ [] }
     {
