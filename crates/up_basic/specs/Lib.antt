@@ -1,3 +1,0 @@
-pub mod DupPipe
-pub mod Idem
-pub mod NullPipe

@@ -1,61 +1,43 @@
-ghost use Rattle.std.specs.Prelude.{[]};
+ghost use Rattle.std.specs.Prelude.{refl};
+ghost use Rattle.up_model.specs.Packetwise.{passes_on};
+ghost use Rattle.up_model.specs.declared.kind.Kind.TheVariants as kinds;
 
 use up_base::NoMemory;
-use up_model::Tally;
-use up_shape::{Command, ControlRefused, LocalPacket, Module, Outbox, Reply, put_out};
+use up_model::Passed;
+use up_shape::{
+    Command, ControlRefused, LocalPacket, Made, Options, PacketStep, Packetwise, Reply,
+};
 
 /// Passes on each packet as it is. In a graph each of its consumers gets the whole flow.
-#[derive(Debug)]
-pub struct DupPipe {
-    fed: bool,
-}
+pub type DupPipe = Packetwise<DupStep>;
 
-impl DupPipe {
-    ghost use Rattle.up_basic.specs.DupPipe.{StandsFor};
+#[derive(Debug, Drop)]
+pub struct DupStep;
 
-    /// One that was fed nothing.
-    pub fn new() -> DupPipe
-        ensures { StandsFor result [] }
-    {
-        DupPipe { fed: false }
-    }
-}
-
-impl<P: LocalPacket> Module<P> for DupPipe {
-    ghost use Rattle.up_model.specs.declared.kind.Kind.TheVariants.{Dup as DupKind};
-    ghost use Rattle.up_basic.specs.DupPipe.{StandsFor};
-
-    ghost kind = { λ _. DupKind };
-
-    ghost stands = { StandsFor };
-
-    ghost agrees = { λ _ _. Unit {0} };
-
-    fn feed(&mut self, p: P, out: &mut Outbox<P>, s: &mut P::Store) -> Result<(), NoMemory> {
-        self.fed = true;
-        match put_out(p, out, s) {
-            Ok(()) => {
-                out.add_tally(Tally::of_passed(0));
-                Ok(())
-            }
-            Err(NoMemory) => Err(NoMemory),
-        }
-    }
-
-    fn finish(self, _out: &mut Outbox<P>, _s: &mut P::Store) -> Result<(), NoMemory> {
-        let DupPipe { fed: _ } = self;
-        Ok(())
-    }
-
-    fn give_up(self, _s: &mut P::Store) {
-        let DupPipe { fed: _ } = self;
-    }
-
-    fn fresh(&self) -> bool {
-        !self.fed
-    }
+impl Options for DupStep {
+    ghost kind = { λ _. kinds.Dup };
 
     fn control(&mut self, _c: Command) -> Result<Reply, ControlRefused> {
         Err(ControlRefused::Unhandled)
     }
+}
+
+impl Made<()> for DupStep {
+    ghost first = { λ _. kinds.Dup };
+
+    fn made(_fields: ()) -> DupStep {
+        DupStep
+    }
+}
+
+impl<P: LocalPacket> PacketStep<P> for DupStep {
+    ghost step = { λ _. passes_on };
+
+    fn pass(&self, p: P, _s: &mut P::Store) -> Result<Passed<P>, NoMemory> {
+        Ok(Passed::Passes { packet: p, cut: 0 })
+    }
+
+    ghost settles = { λ _ _. refl };
+
+    ghost owes = { λ _ _. refl };
 }

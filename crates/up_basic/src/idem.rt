@@ -1,61 +1,43 @@
-ghost use Rattle.std.specs.Prelude.{[]};
+ghost use Rattle.std.specs.Prelude.{refl};
+ghost use Rattle.up_model.specs.Packetwise.{passes_on};
+ghost use Rattle.up_model.specs.declared.kind.Kind.TheVariants as kinds;
 
 use up_base::NoMemory;
-use up_model::Tally;
-use up_shape::{Command, ControlRefused, LocalPacket, Module, Outbox, Reply, put_out};
+use up_model::Passed;
+use up_shape::{
+    Command, ControlRefused, LocalPacket, Made, Options, PacketStep, Packetwise, Reply,
+};
 
 /// Passes on each packet as it is.
-#[derive(Debug)]
-pub struct Idem {
-    fed: bool,
-}
+pub type Idem = Packetwise<IdemStep>;
 
-impl Idem {
-    ghost use Rattle.up_basic.specs.Idem.{StandsFor};
+#[derive(Debug, Drop)]
+pub struct IdemStep;
 
-    /// One that was fed nothing.
-    pub fn new() -> Idem
-        ensures { StandsFor result [] }
-    {
-        Idem { fed: false }
-    }
-}
-
-impl<P: LocalPacket> Module<P> for Idem {
-    ghost use Rattle.up_model.specs.declared.kind.Kind.TheVariants.{Idem as IdemKind};
-    ghost use Rattle.up_basic.specs.Idem.{StandsFor};
-
-    ghost kind = { λ _. IdemKind };
-
-    ghost stands = { StandsFor };
-
-    ghost agrees = { λ _ _. Unit {0} };
-
-    fn feed(&mut self, p: P, out: &mut Outbox<P>, s: &mut P::Store) -> Result<(), NoMemory> {
-        self.fed = true;
-        match put_out(p, out, s) {
-            Ok(()) => {
-                out.add_tally(Tally::of_passed(0));
-                Ok(())
-            }
-            Err(NoMemory) => Err(NoMemory),
-        }
-    }
-
-    fn finish(self, _out: &mut Outbox<P>, _s: &mut P::Store) -> Result<(), NoMemory> {
-        let Idem { fed: _ } = self;
-        Ok(())
-    }
-
-    fn give_up(self, _s: &mut P::Store) {
-        let Idem { fed: _ } = self;
-    }
-
-    fn fresh(&self) -> bool {
-        !self.fed
-    }
+impl Options for IdemStep {
+    ghost kind = { λ _. kinds.Idem };
 
     fn control(&mut self, _c: Command) -> Result<Reply, ControlRefused> {
         Err(ControlRefused::Unhandled)
     }
+}
+
+impl Made<()> for IdemStep {
+    ghost first = { λ _. kinds.Idem };
+
+    fn made(_fields: ()) -> IdemStep {
+        IdemStep
+    }
+}
+
+impl<P: LocalPacket> PacketStep<P> for IdemStep {
+    ghost step = { λ _. passes_on };
+
+    fn pass(&self, p: P, _s: &mut P::Store) -> Result<Passed<P>, NoMemory> {
+        Ok(Passed::Passes { packet: p, cut: 0 })
+    }
+
+    ghost settles = { λ _ _. refl };
+
+    ghost owes = { λ _ _. refl };
 }

@@ -1,5 +1,6 @@
 -- A chain passes on what its source puts out.
 use Rattle.std.proofs.Common.{◌≡◌, ℕ, zero, suc, ◌+◌, ◌<◌, List, [], ◌∷◌, length, Some, slice_get, refl, ap, add-one, arith}
+use Rattle.up_model.proofs.Packetwise.{passed-on}
 use Rattle.up_model.specs.Chain.{IsChain, IsRawSource}
 use Rattle.up_model.specs.Meaning.{Flow, put_out, flow_within, sink_bytes}
 use Rattle.up_model.specs.Packet.{joined}
@@ -28,7 +29,7 @@ chain_flow pipes given (suc place) (suc steps) chain within enough =
     let next = there pipes (suc place) (omega arith) in
     let kind : next.0.kind ≡ Idem = chain.between (suc place) next.0 (omega arith) within next.1 in
     let input : next.0.input ≡ Some place = chain.input place next.0 (rw add-one next.1) in
-    rw (next.1, kind, input) (chain_flow pipes given place steps chain (omega arith) (omega arith))
+    rw (next.1, kind, input, passed-on) (chain_flow pipes given place steps chain (omega arith) (omega arith))
 
 pub sink_bytes-chain : (pipes : List Pipe) (given : ℕ → Flow) (place : ℕ) (sink : Pipe) → IsChain pipes → place + 1 ≡ length pipes
     → slice_get pipes place ≡ Some sink → sink_bytes pipes given sink ≡ joined (given 0)

@@ -11,9 +11,9 @@ pub mod OutcomeExamples
 pub mod Outputs
 pub mod PacketExamples
 pub mod Packets
+pub mod Packetwise
 pub mod SkipExamples
 pub mod Skips
 pub mod SortedEntries
-pub mod Steps
 pub mod TallyExamples
 pub mod ValueExamples

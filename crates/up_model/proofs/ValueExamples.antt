@@ -2,16 +2,16 @@
 use Rattle.std.proofs.Common.{◌≡◌, ◌-◌, ◌^◌, List, ℕ, [], ◌∷◌, true, refl}
 use Rattle.std.specs.Prelude.{codes}
 use Rattle.std.proofs.Common.{Bor}
-use Rattle.up_model.specs.Value.{seen, value_size}
+use Rattle.up_model.specs.Value.{lent, value_size}
 use Rattle.up_model.specs.declared.value.Value.TheVariants.{Void, Flag, Unsigned, Words, Opaque}
 use Rattle.up_model.specs.declared.value.ValueView.TheVariants as views
 
--- a value that is lent is seen as itself
-pub lent : (seen views.Void ≡ Void) × (seen (views.Flag true) ≡ Flag true) × (seen (views.Unsigned (2 ^ 64 - 1)) ≡ Unsigned (2 ^ 64 - 1))
+-- a value that is lent is lent as itself
+pub lent : (lent views.Void ≡ Void) × (lent (views.Flag true) ≡ Flag true) × (lent (views.Unsigned (2 ^ 64 - 1)) ≡ Unsigned (2 ^ 64 - 1))
 lent = (refl, refl, refl)
 
--- a text and bytes that are lent are seen as what they are
-pub lent_bytes : (bytes : Bor (List ℕ)) → (seen (views.Words bytes) ≡ Words bytes.now) × (seen (views.Opaque bytes) ≡ Opaque bytes.now)
+-- a text and bytes that are lent are lent as what they are
+pub lent_bytes : (bytes : Bor (List ℕ)) → (lent (views.Words bytes) ≡ Words bytes.now) × (lent (views.Opaque bytes) ≡ Opaque bytes.now)
 lent_bytes bytes = (refl, refl)
 
 -- the size of a text or opaque value is that of its bytes

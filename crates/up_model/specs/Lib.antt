@@ -2,12 +2,15 @@ pub mod Attrs
 pub mod Branch
 pub mod Chain
 pub mod Cutting
+pub mod Ends
+pub mod KindMeaning
 pub mod Kinds
 pub mod Meaning
-pub mod Null
-pub mod Options
+pub mod OptionValues
 pub mod Outcomes
 pub mod Packet
+pub mod Packetwise
 pub mod Skip
 pub mod Tallies
 pub mod Value
+pub mod Work

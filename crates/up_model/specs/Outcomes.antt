@@ -4,19 +4,28 @@ use Rattle.up_model.specs.Cutting.{blocks, full_blocks}
 use Rattle.up_model.specs.Packet.{Flow}
 use Rattle.up_model.specs.declared.kind.Kind.{Kind}
 use Rattle.up_model.specs.declared.kind.Kind.TheVariants.{Source}
+use Rattle.up_model.specs.declared.form.SourceForm.{SourceForm}
 use Rattle.up_model.specs.declared.form.SourceForm.TheVariants.{Raw}
 use Rattle.up_model.specs.declared.outcome.Outcome.{Outcome}
-use Rattle.up_model.specs.declared.outcome.Outcome.TheVariants.{Whole, ReadFault, WriteFault, TooLong}
+use Rattle.up_model.specs.declared.outcome.Outcome.TheVariants.{Whole, ReadFault, WriteFault, TooLong, Broken, NoMemory}
 
--- where no read fails: too long where there are more bytes than the limit, else whole
-abbrev pub outcome_of : Kind → List ℕ → Outcome
-outcome_of (Source path (Raw block) limit) bytes = if nat_lt limit (length bytes) then TooLong limit else Whole
-outcome_of kind bytes = Whole
+-- a source of the form: too long where there are more bytes than the limit, else whole
+abbrev pub source_outcome : SourceForm → ℕ → List ℕ → Outcome
+source_outcome (Raw block) limit bytes = if nat_lt limit (length bytes) then TooLong limit else Whole
 
 -- all its blocks where it is whole, else the whole blocks within the limit
-abbrev pub carried_flow : Kind → List ℕ → Flow
-carried_flow (Source path (Raw block) limit) bytes =
+abbrev pub source_flow : SourceForm → ℕ → List ℕ → Flow
+source_flow (Raw block) limit bytes =
     if nat_lt limit (length bytes) then full_blocks block (take limit bytes) else blocks block bytes
+
+-- where no read fails: as a source of its form; a pipe that is no source is whole
+abbrev pub outcome_of : Kind → List ℕ → Outcome
+outcome_of (Source path form limit) bytes = source_outcome form limit bytes
+outcome_of kind bytes = Whole
+
+-- what it then carried: a source the flow of its form; a pipe that is no source carries nothing of its own
+abbrev pub carried_flow : Kind → List ℕ → Flow
+carried_flow (Source path form limit) bytes = source_flow form limit bytes
 carried_flow kind bytes = []
 
 -- the pipe ended as it did for a reason of its own
@@ -24,4 +33,6 @@ abbrev pub HasOwnCause : Outcome → Type 0
 HasOwnCause ReadFault = Unit {0}
 HasOwnCause WriteFault = Unit {0}
 HasOwnCause (TooLong limit) = Unit {0}
-HasOwnCause outcome = ⊥
+HasOwnCause Whole = ⊥
+HasOwnCause Broken = ⊥
+HasOwnCause NoMemory = ⊥

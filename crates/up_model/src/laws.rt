@@ -1,12 +1,17 @@
 // Laws of the definitions. A law is the contract of a function that does nothing.
-ghost use Rattle.std.specs.Prelude.{◌≡◌, ◌<◌, ◌+◌, ◌++◌, ℕ, List, All, length, slice_get, Some};
+ghost use Rattle.std.specs.Prelude.{◌≡◌, ◌<◌, ◌+◌, ◌++◌, [], ℕ, ℤ, int_le, true, List, All, length, slice_get, Some};
+ghost use Rattle.up_base.specs.Lists.{IsPrefix};
 ghost use Rattle.up_model.specs.Chain.{IsChain};
 ghost use Rattle.up_model.specs.Cutting.{blocks};
-ghost use Rattle.up_model.specs.Kinds.{output_of, settled_output, IsPrefix};
+ghost use Rattle.up_model.specs.KindMeaning.{Setting};
+ghost use Rattle.up_model.specs.Kinds.{IsWithinBounds, output_of, settled_output, settled_work, work_of, setting_of, with_option};
 ghost use Rattle.up_model.specs.Meaning.{sink_bytes};
+ghost use Rattle.up_model.specs.OptionValues.{IsSet};
 ghost use Rattle.up_model.specs.Packet.{Flow, IsLegal, joined};
-ghost use Rattle.up_model.specs.Tallies.{plus, added};
+ghost use Rattle.up_model.specs.Tallies.{IsAtMost, nothing, plus, added, stopped};
+ghost use Rattle.up_model.specs.Work.{no_work};
 ghost use Rattle.up_model.specs.declared.kind.Kind.{Kind as TheKind};
+ghost use Rattle.up_model.specs.declared.opt.Opt.{Opt as TheOpt};
 ghost use Rattle.up_model.specs.declared.pipe.Pipe.{Pipe as ThePipe};
 ghost use Rattle.up_model.specs.declared.tally.Tally.{Tally as TheTally};
 
@@ -22,6 +27,11 @@ pub fn chain_copies()
         → sink_bytes pipes given sink ≡ joined (given 0) }
 {}
 
+/// A kind that took nothing has put out nothing and counted nothing.
+pub fn starts_with_nothing()
+    ensures { (kind : TheKind) → settled_work kind [] ≡ no_work }
+{}
+
 /// What a kind has put out when its flow goes on is a prefix of what it has put out later, and of what it puts out in
 /// all.
 pub fn settled_is_prefix()
@@ -31,12 +41,34 @@ pub fn settled_is_prefix()
         → IsPrefix (settled_output kind taken) (output_of kind (taken ++ more)) }
 {}
 
-/// A kind makes legal packets of legal ones.
+/// Each sum of a kind when its flow goes on is at most that sum later, and that in all.
+pub fn settled_sums_grow()
+    ensures longer { (kind : TheKind) (taken more : Flow)
+        → IsAtMost (settled_work kind taken).tally (settled_work kind (taken ++ more)).tally }
+    ensures whole { (kind : TheKind) (taken more : Flow)
+        → IsAtMost (settled_work kind taken).tally (work_of kind (taken ++ more)).tally }
+{}
+
+/// A kind within its bounds makes legal packets of legal ones.
 pub fn outputs_are_legal()
-    ensures { (kind : TheKind) (taken : Flow) → All IsLegal taken → All IsLegal (output_of kind taken) }
+    ensures { (kind : TheKind) (taken : Flow) → IsWithinBounds kind → All IsLegal taken
+        → All IsLegal (output_of kind taken) }
+{}
+
+/// A value within the bounds of an option is set in that option alone, and the kind stays within its bounds.
+pub fn options_are_set()
+    ensures { (kind : TheKind) (option : TheOpt) (setting : Setting) (value : ℤ)
+        → setting_of kind option ≡ Some setting
+        → int_le setting.low value ≡ true → int_le value setting.high ≡ true
+        → IsSet option value kind (with_option kind option value) }
 {}
 
 /// To add to sums that are kept one after the other is to add both together.
 pub fn sums_add_up()
     ensures { (sums a b : TheTally) → added (added sums a) b ≡ added sums (plus a b) }
+{}
+
+/// Sums that are kept since the start are the sums, each stopped at 2^64 - 1.
+pub fn kept_sums_stop()
+    ensures { (sums : TheTally) → added nothing sums ≡ stopped sums }
 {}

@@ -1,7 +1,7 @@
 -- What a module puts into an outbox in one call.
 use Rattle.std.proofs.Common.{◌≡◌, [], ◌∷◌, ◌++◌, map, sym, ap, ◌∙◌, append-nil, append_assoc, arith}
 use Rattle.std.proofs.lemmas.List.{map-append}
-use Rattle.up_model.proofs.Steps.{with_packet, with_sums, plus-nothing}
+use Rattle.up_model.proofs.Packetwise.{with_packet, with_sums, plus-nothing}
 use Rattle.up_model.specs.Kinds.{Work}
 use Rattle.up_model.specs.Tallies.{plus, added, nothing}
 use Rattle.up_model.specs.declared.plain_packet.PlainPacket.{PlainPacket}

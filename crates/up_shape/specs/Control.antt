@@ -1,6 +1,7 @@
 -- What a module answers to a command, by the options of its kind.
 use Rattle.std.specs.Prelude.{ℤ, int_le, ◌&&◌, Option, Some, None, Result, Ok, Err, if◌then◌else◌}
-use Rattle.up_model.specs.Options.{Setting, setting_of, with_option}
+use Rattle.up_model.specs.KindMeaning.{Setting}
+use Rattle.up_model.specs.Kinds.{setting_of, with_option}
 use Rattle.up_model.specs.declared.kind.Kind.{Kind}
 use Rattle.up_model.specs.declared.opt.Opt.{Opt}
 use Rattle.up_shape.specs.declared.control.Command.{Command}

@@ -4,6 +4,8 @@ pub mod Fed
 pub mod Growth
 pub mod Histories
 pub mod Outgoing
+pub mod Packetwise
+pub mod Passing
 pub mod Stores
 pub mod VecPackets
 pub mod VecRooms

@@ -1,0 +1,50 @@
+-- The kinds at the ends of a graph, `source` and `sink`. As a kind neither puts anything out for what it takes: what a source
+-- puts out is what it carried.
+use Rattle.std.specs.Prelude.{◌≡◌, ℕ, ◌≤◌, true, false, ◌==◌, [], List, length}
+use Rattle.std.specs.List.{list_any}
+use Rattle.std.specs.Str.{is_utf8}
+use Rattle.up_model.specs.KindMeaning.{KindMeaning, no_options, whole_share, no_stand_in}
+use Rattle.up_model.specs.Tallies.{nothing, of_sink}
+use Rattle.up_model.specs.declared.form.SinkForm.{SinkForm}
+use Rattle.up_model.specs.declared.form.SinkForm.TheVariants as sink_forms
+use Rattle.up_model.specs.declared.form.SourceForm.{SourceForm}
+use Rattle.up_model.specs.declared.form.SourceForm.TheVariants as source_forms
+use Rattle.up_model.specs.declared.limits.TheConstants.{MAX_LIMIT, MAX_PACKET, MAX_PATH}
+
+-- a text of 1 to 4,096 bytes, none of which is zero
+pub record IsPath (path : List ℕ) : Type 0 where
+  pub text : is_utf8 path ≡ true
+  pub some : 1 ≤ length path
+  pub short : length path ≤ MAX_PATH
+  pub no_zero : list_any (λ byte. byte == 0) path ≡ false
+
+-- blocks have at least one byte, and at most as many as a packet
+abbrev pub IsSourceForm : SourceForm → Type 0
+IsSourceForm (source_forms.Raw block) = (1 ≤ block) × (block ≤ MAX_PACKET)
+
+abbrev pub IsSinkForm : SinkForm → Type 0
+IsSinkForm sink_forms.Raw = Unit {0}
+
+abbrev pub source_meaning : List ℕ → SourceForm → ℕ → KindMeaning
+source_meaning path form limit = record {
+  IsWithin = IsPath path × IsSourceForm form × (limit ≤ MAX_LIMIT);
+  output = λ taken. [];
+  settled = λ taken. [];
+  tally = λ taken. nothing;
+  settled_tally = λ taken. nothing;
+  setting = no_options;
+  share = whole_share;
+  stand_in = no_stand_in;
+}
+
+abbrev pub sink_meaning : List ℕ → SinkForm → KindMeaning
+sink_meaning path form = record {
+  IsWithin = IsPath path × IsSinkForm form;
+  output = λ taken. [];
+  settled = λ taken. [];
+  tally = of_sink;
+  settled_tally = of_sink;
+  setting = no_options;
+  share = whole_share;
+  stand_in = no_stand_in;
+}
