@@ -1,5 +1,4 @@
 pub mod AttrLists
-pub mod BranchExamples
 pub mod Chains
 pub mod Cuts
 pub mod CuttingExamples

@@ -9,7 +9,7 @@ use Rattle.up_model.specs.declared.form.SinkForm.{SinkForm}
 use Rattle.up_model.specs.declared.form.SinkForm.TheVariants as sink_forms
 use Rattle.up_model.specs.declared.form.SourceForm.{SourceForm}
 use Rattle.up_model.specs.declared.form.SourceForm.TheVariants as source_forms
-use Rattle.up_model.specs.declared.limits.TheConstants.{MAX_LIMIT, MAX_PACKET, MAX_PATH}
+use Rattle.up_model.specs.declared.limits.TheConstants.{MAX_BLOCK, MAX_LIMIT, MAX_PATH}
 
 -- a text of 1 to 4,096 bytes, none of which is zero
 pub record IsPath (path : List ℕ) : Type 0 where
@@ -18,9 +18,9 @@ pub record IsPath (path : List ℕ) : Type 0 where
   pub short : length path ≤ MAX_PATH
   pub no_zero : list_any (λ byte. byte == 0) path ≡ false
 
--- blocks have at least one byte, and at most as many as a packet
+-- blocks have at least one byte
 abbrev pub IsSourceForm : SourceForm → Type 0
-IsSourceForm (source_forms.Raw block) = (1 ≤ block) × (block ≤ MAX_PACKET)
+IsSourceForm (source_forms.Raw block) = (1 ≤ block) × (block ≤ MAX_BLOCK)
 
 abbrev pub IsSinkForm : SinkForm → Type 0
 IsSinkForm sink_forms.Raw = Unit {0}

@@ -7,7 +7,7 @@ use Rattle.up_model.specs.declared.kind.Kind.TheVariants.{Source}
 use Rattle.up_model.specs.declared.form.SourceForm.{SourceForm}
 use Rattle.up_model.specs.declared.form.SourceForm.TheVariants.{Raw}
 use Rattle.up_model.specs.declared.outcome.Outcome.{Outcome}
-use Rattle.up_model.specs.declared.outcome.Outcome.TheVariants.{Whole, ReadFault, WriteFault, TooLong, Broken, NoMemory}
+use Rattle.up_model.specs.declared.outcome.Outcome.TheVariants.{Whole, TooLong}
 
 -- a source of the form: too long where there are more bytes than the limit, else whole
 abbrev pub source_outcome : SourceForm → ℕ → List ℕ → Outcome
@@ -27,12 +27,3 @@ outcome_of kind bytes = Whole
 abbrev pub carried_flow : Kind → List ℕ → Flow
 carried_flow (Source path form limit) bytes = source_flow form limit bytes
 carried_flow kind bytes = []
-
--- the pipe ended as it did for a reason of its own
-abbrev pub HasOwnCause : Outcome → Type 0
-HasOwnCause ReadFault = Unit {0}
-HasOwnCause WriteFault = Unit {0}
-HasOwnCause (TooLong limit) = Unit {0}
-HasOwnCause Whole = ⊥
-HasOwnCause Broken = ⊥
-HasOwnCause NoMemory = ⊥

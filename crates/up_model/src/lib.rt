@@ -32,10 +32,10 @@ pub use laws::{
     settled_is_prefix, settled_sums_grow, starts_with_nothing, sums_add_up,
 };
 pub use limits::{
-    DEFAULT_BLOCK, DEFAULT_QUEUE, MAX_ATTRS, MAX_GRAPH, MAX_LIMIT, MAX_PACKET, MAX_PATH, MAX_PIPES,
-    MAX_VALUE,
+    DEFAULT_BLOCK, DEFAULT_QUEUE, MAX_ATTRS, MAX_BLOCK, MAX_GRAPH, MAX_LIMIT, MAX_PACKET, MAX_PATH,
+    MAX_PIPES, MAX_VALUE,
 };
-pub use lists::{GivenBytes, OutcomeList, PacketList, PipeList, PlaceList, TallyList};
+pub use lists::{GivenBytes, PacketList, PipeList, PlaceList};
 pub use opt::Opt;
 pub use outcome::Outcome;
 pub use passed::Passed;
