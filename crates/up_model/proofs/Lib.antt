@@ -1,10 +1,13 @@
 pub mod AttrLists
+pub mod Carried
 pub mod Chains
 pub mod Cuts
 pub mod CuttingExamples
 pub mod Ends
+pub mod EndsExamples
 pub mod EveryKind
 pub mod ExampleChain
+pub mod ExampleTree
 pub mod Lawful
 pub mod MeaningExamples
 pub mod NullExamples
@@ -17,4 +20,5 @@ pub mod Skip
 pub mod SkipExamples
 pub mod SortedEntries
 pub mod TallyExamples
+pub mod TreeExamples
 pub mod ValueExamples

@@ -13,10 +13,18 @@ use Rattle.up_model.specs.declared.outcome.Outcome.TheVariants.{Whole, TooLong}
 abbrev pub source_outcome : SourceForm → ℕ → List ℕ → Outcome
 source_outcome (Raw block) limit bytes = if nat_lt limit (length bytes) then TooLong limit else Whole
 
--- all its blocks where it is whole, else the whole blocks within the limit
+-- the packets that bytes of the form hold, where these are all of them
+abbrev pub packets_of : SourceForm → List ℕ → Flow
+packets_of (Raw block) bytes = blocks block bytes
+
+-- those that they hold whatever comes after them
+abbrev pub whole_packets_of : SourceForm → List ℕ → Flow
+whole_packets_of (Raw block) bytes = full_blocks block bytes
+
+-- all packets where the source is whole, else those within the limit
 abbrev pub source_flow : SourceForm → ℕ → List ℕ → Flow
-source_flow (Raw block) limit bytes =
-    if nat_lt limit (length bytes) then full_blocks block (take limit bytes) else blocks block bytes
+source_flow form limit bytes =
+    if nat_lt limit (length bytes) then whole_packets_of form (take limit bytes) else packets_of form bytes
 
 -- where no read fails: as a source of its form; a pipe that is no source is whole
 abbrev pub outcome_of : Kind → List ℕ → Outcome

@@ -16,6 +16,9 @@ pub const MAX_PACKET: u32 = 1_048_576;
 /// The greatest block of a raw source, in bytes.
 pub const MAX_BLOCK: u32 = 1_048_576;
 
+/// The greatest packet identifier (PID) of a transport stream packet.
+pub const MAX_PID: u16 = 8_191;
+
 /// The most attributes of a packet.
 pub const MAX_ATTRS: usize = 64;
 
