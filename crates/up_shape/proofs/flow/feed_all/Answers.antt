@@ -1,6 +1,6 @@
 use Rattle.std.proofs.lemmas.List.Elements.{All-head, All-tail}
 use Rattle.up_model.specs.Packet.{IsLegal}
-use Rattle.up_shape.proofs.Fed.{not_fed, fed_next}
+use Rattle.up_shape.proofs.Fed.{not_fed, fed_next, fed_in_part}
 use Rattle.up_shape.proofs.StoreSteps.{Stays-refl, Stays-trans}
 use Rattle.up_shape.proofs.flow.feed_all.Goals as goal
 
