@@ -1,5 +1,5 @@
 -- What a module puts into an outbox in one call, and in calls that follow each other.
-use Rattle.std.proofs.Common.{◌≡◌, List, [], ◌∷◌, ◌++◌, map, sym, ap, ◌∙◌, append-nil, append_assoc, arith}
+use Rattle.std.proofs.Common.{◌≡◌, List, [], ◌∷◌, ◌++◌, map, sym, ap, ◌∙◌, append-nil, append_assoc, subst, arith}
 use Rattle.std.proofs.lemmas.List.{map-append}
 use Rattle.up_base.specs.Lists.{IsPrefix}
 use Rattle.up_model.proofs.Packetwise.{with_packet, with_sums, plus-nothing}
@@ -109,7 +109,8 @@ module _ {P : Type 0} (plain : P → PlainPacket) (a b c : Outgoing P) (x y z : 
     packets = two.packets ∙ ap (λ front. front ++ two.given) one.packets ∙ append_assoc a.packets one.given two.given;
     tally = two.tally ∙ ap (λ sums. added sums two.growth) one.tally ∙ added-added a.tally one.growth two.growth;
     flow = two.flow ∙ ap (λ front. front ++ two.lacking) (two_parts plain x.flow y.flow one.given two.given one.flow);
-    sums = rw (← plus-plus x.tally one.growth two.growth, ← one.sums) two.sums;
+    sums =
+        subst (λ sums. IsAtMost sums z.tally) (ap (λ sums. plus sums two.growth) one.sums ∙ plus-plus x.tally one.growth two.growth) two.sums;
   }
 
 -- what grew by a part of some work grew by a part of longer work
