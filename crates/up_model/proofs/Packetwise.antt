@@ -4,8 +4,8 @@ use Rattle.std.specs.Prelude.{filter_map}
 use Rattle.std.specs.List.{cons_option}
 use Rattle.std.proofs.lemmas.List.Elements.{All-cons, All-head, All-tail}
 use Rattle.up_model.specs.Packet.{PlainPacket, Flow, IsLegal}
-use Rattle.up_model.specs.Packetwise.{Step, put_of, sums_of, passed, summed, work_by, passes_on, IfPasses, KeepsLegal}
-use Rattle.up_model.specs.Tallies.{nothing, plus, of_passed, of_dropped}
+use Rattle.up_model.specs.Packetwise.{Step, put_of, sums_of, passed, summed, work_by, passes_on, IfPasses}
+use Rattle.up_model.specs.Tallies.{nothing, plus, IsAtMost, of_passed, of_dropped}
 use Rattle.up_model.specs.Work.{Work}
 use Rattle.up_model.specs.declared.passed.Passed.{Passed}
 use Rattle.up_model.specs.declared.passed.Passed.TheVariants.{Passes, Drops}
@@ -33,6 +33,16 @@ nothing-plus tally = grind arith
 plus-plus : (a b c : Tally) → plus (plus a b) c ≡ plus a (plus b c)
 plus-plus a b c = grind arith
 
+at_most-plus : (a b : Tally) → IsAtMost a (plus a b)
+at_most-plus a b = record {
+  taken = omega arith;
+  put = omega arith;
+  dropped = omega arith;
+  cut = omega arith;
+  gained = omega arith;
+  lost = omega arith;
+}
+
 cons_option-append : {X : Type 0} (o : Option X) (xs ys : List X) → cons_option o xs ++ ys ≡ cons_option o (xs ++ ys)
 cons_option-append None xs ys = refl
 cons_option-append (Some x) xs ys = refl
@@ -48,6 +58,10 @@ pub summed-append : (step : Step) (front more : Flow) → summed step (front ++ 
 summed-append step [] more = sym (nothing-plus (summed step more))
 summed-append step (packet ∷ front) more =
     ap (plus (sums_of packet (step packet))) (summed-append step front more) ∙ sym (plus-plus (sums_of packet (step packet)) (summed step front) (summed step more))
+
+-- so each sum only grows
+pub summed-grows : (step : Step) (front more : Flow) → IsAtMost (summed step front) (summed step (front ++ more))
+summed-grows step front more = rw (summed-append step front more) (at_most-plus (summed step front) (summed step more))
 
 -- what passes as it is
 pub passed-on : (taken : Flow) → passed passes_on taken ≡ taken
@@ -67,6 +81,10 @@ module _ (step : Step) (taken : Flow) (packet : PlainPacket) where
   work-drops is = same_work _ _ _ _
       (passed-append step taken (packet ∷ []) ∙ ap (λ p. passed step taken ++ cons_option (put_of p) []) is ∙ append-nil (passed step taken))
       (summed-append step taken (packet ∷ []) ∙ ap (plus (summed step taken)) (plus-nothing (sums_of packet (step packet)) ∙ ap (sums_of packet) is))
+
+-- of a legal packet it makes a legal one, or none
+abbrev pub KeepsLegal : Step → Type 0
+KeepsLegal step = (packet : PlainPacket) → IsLegal packet → IfPasses (step packet) IsLegal
 
 put_is_legal : (p : Passed PlainPacket) (rest : Flow) → IfPasses p IsLegal → All IsLegal rest → All IsLegal (cons_option (put_of p) rest)
 put_is_legal (Passes packet cut) rest legal more = All-cons IsLegal packet rest legal more

@@ -1,5 +1,5 @@
-use Rattle.up_model.proofs.Outputs.{lawful}
+use Rattle.up_model.proofs.EveryKind.{lawful}
 use Rattle.up_model.proofs.laws.outputs_are_legal.Goals as goal
 
 pub returns : goal.returns
-returns c kind = (lawful kind).legal
+returns c kind = (lawful kind).flows.legal
