@@ -28,7 +28,7 @@ pub use outbox::{Outbox, put_out};
 pub use packet::Packet;
 pub use packet_step::{Made, Options, PacketStep};
 pub use packetwise::Packetwise;
-pub use stash::Stash;
+pub use stash::{MAX_KEPT, Stash};
 pub use up_model::Opt;
 pub use vec_packet::VecPacket;
 pub use vec_room::VecRoom;

@@ -3,11 +3,12 @@ ghost use Rattle.up_shape.specs.Bytes.{written_at};
 
 use crate::byte_edits::{drop_first, write_over};
 use std::alloc::Global;
+use std::fmt;
 use std::marker::Model;
 use up_base::NoMemory;
 
 /// Bytes in a vector, from a place on. What lies before the place is dead; it stays until bytes are added.
-#[derive(Debug, Drop)]
+#[derive(Drop)]
 pub(crate) struct VecBytes {
     held: Vec<u8>,
     start: usize,
@@ -87,5 +88,11 @@ impl VecBytes {
     {
         let start = self.start;
         write_over(&mut self.held[start..], at, written);
+    }
+}
+
+impl fmt::Debug for VecBytes {
+    fn fmt<W: fmt::Write>(&self, f: &mut fmt::Formatter<W>) -> fmt::Result {
+        self.as_slice().fmt(f)
     }
 }
