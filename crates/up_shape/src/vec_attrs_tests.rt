@@ -1,5 +1,4 @@
-ghost use Rattle.std.specs.Prelude.{◌≤◌};
-ghost use Rattle.up_model.specs.Value.{seen, value_size};
+ghost use Rattle.up_model.specs.Value.{lent, IsLegalValue};
 
 use crate::vec_packet_tests::{assert_bytes, dup, fresh, front};
 use crate::{LocalPacket, VecPacket, VecStore};
@@ -7,14 +6,14 @@ use std::alloc::Global;
 use std::process::Abort;
 use std::test::Fail;
 use up_base::AttrName;
-use up_model::ValueView;
+use up_model::{MAX_ATTRS, ValueView};
 
 /// Gives the attribute this value.
 fn set_attr<P: LocalPacket>(rt: &impl Abort, packet: &mut P, name: &str, value: ValueView<'_>)
-    requires { value_size (seen value) ≤ 4096 }
+    requires { IsLegalValue (lent value) }
 {
     let name = AttrName::read(name.as_bytes()).expect(rt, "no name");
-    assert!(rt; packet.attr_count() < 64);
+    assert!(rt; packet.attr_count() < MAX_ATTRS);
     packet.set_attr(&name, value).expect(rt, "no memory");
 }
 

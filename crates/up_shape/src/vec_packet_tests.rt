@@ -3,6 +3,7 @@ ghost use Rattle.std.specs.Prelude.{◌<◌, ◌≤◌, length};
 use crate::{LocalPacket, Packet, VecPacket, VecStore};
 use std::process::Abort;
 use up_base::NoRoom;
+use up_model::MAX_PACKET;
 
 /// The packet has these bytes.
 pub(crate) fn assert_bytes<P: LocalPacket>(rt: &impl Abort, packet: &P, wanted: &[u8]) {
@@ -17,7 +18,7 @@ pub(crate) fn assert_bytes<P: LocalPacket>(rt: &impl Abort, packet: &P, wanted: 
 
 /// A packet of these bytes.
 pub(crate) fn fresh<P: LocalPacket>(rt: &impl Abort, bytes: &[u8], s: &mut P::Store) -> P
-    requires { length bytes.now ≤ 1048576 }
+    requires { length bytes.now ≤ MAX_PACKET }
 {
     P::fresh(bytes, s).expect(rt, "no memory")
 }
@@ -26,7 +27,7 @@ pub(crate) fn fresh<P: LocalPacket>(rt: &impl Abort, bytes: &[u8], s: &mut P::St
 fn of_filled<P: LocalPacket>(rt: &impl Abort, bytes: &[u8], count: u32, s: &mut P::Store) -> P
     requires some { 0 < count }
     requires within { count ≤ length bytes.now }
-    requires fits { length bytes.now ≤ 1048576 }
+    requires fits { length bytes.now ≤ MAX_PACKET }
 {
     let mut room = P::room(bytes.len() as u32, s).expect(rt, "no memory");
     P::room_bytes(&mut room).copy_from_slice(bytes);

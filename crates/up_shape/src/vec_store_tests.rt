@@ -1,10 +1,10 @@
 ghost use Rattle.std.specs.Prelude.{◌≤◌};
 
-use crate::{Stash, VecStore};
+use crate::{MAX_KEPT, Stash, VecStore};
 
 /// Splits a store and joins both parts again.
 fn split_and_join<S: Stash>(store: &mut S)
-    requires { S.kept store.old ≤ 64 }
+    requires { S.kept store.old ≤ MAX_KEPT }
 {
     let other = store.split();
     store.join(other);
