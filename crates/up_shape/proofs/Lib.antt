@@ -4,3 +4,4 @@ pub mod Fed
 pub mod Growths
 pub mod PacketGrowths
 pub mod StoreSteps
+pub mod WholeFlows
