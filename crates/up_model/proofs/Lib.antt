@@ -7,6 +7,7 @@ pub mod Ends
 pub mod EveryKind
 pub mod ExampleChain
 pub mod Lawful
+pub mod Legality
 pub mod MeaningExamples
 pub mod NullExamples
 pub mod OptionExamples

@@ -40,6 +40,8 @@ mod outbox_tests;
 #[cfg(test)]
 mod vec_attrs_tests;
 #[cfg(test)]
+mod vec_limit_tests;
+#[cfg(test)]
 mod vec_packet_tests;
 #[cfg(test)]
 mod vec_store_tests;

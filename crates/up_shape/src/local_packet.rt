@@ -92,6 +92,7 @@ pub trait LocalPacket: Sized {
     fn bytes_at(&self, at: u32) -> &[u8]
         requires { at ≤ length (plain self.now).bytes }
         ensures run { IsPrefix result.now (drop at (plain self.now).bytes) }
+        ensures within { at + length result.now ≤ length (plain self.now).bytes }
         ensures some { at < length (plain self.now).bytes → 0 < length result.now };
 
     /// The value of the attribute, where it is there.

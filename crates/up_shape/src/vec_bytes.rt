@@ -1,4 +1,4 @@
-ghost use Rattle.std.specs.Prelude.{◌≡◌, ◌≤◌, ◌+◌, ◌++◌, length, take, drop, OnOk, OnErr};
+ghost use Rattle.std.specs.Prelude.{◌≡◌, ◌≤◌, ◌+◌, ◌++◌, length, take, drop, IfOk, OnOk, OnErr};
 ghost use Rattle.up_shape.specs.Bytes.{written_at};
 
 use crate::byte_edits::{drop_first, write_over};
@@ -30,6 +30,13 @@ impl VecBytes {
         ensures { result ≡ held.items }
     {
         VecBytes { held, start: 0 }
+    }
+
+    /// A copy of these bytes.
+    pub(crate) fn of_slice(alloc: Global, bytes: &[u8]) -> Result<VecBytes, NoMemory>
+        ensures { IfOk result (λ made. made ≡ bytes.now) }
+    {
+        Ok(VecBytes::whole(Vec::from_slice(alloc, bytes)?))
     }
 
     /// What took their memory.

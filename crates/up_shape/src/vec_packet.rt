@@ -82,7 +82,7 @@ impl LocalPacket for VecPacket {
     fn fresh(bytes: &[u8], s: &mut VecStore) -> Result<VecPacket, NoMemory> {
         let packet = VecPacket {
             attrs: PlainAttrs::new(s.alloc()),
-            bytes: VecBytes::whole(Vec::from_slice(s.alloc(), bytes)?),
+            bytes: VecBytes::of_slice(s.alloc(), bytes)?,
         };
         if !bytes.is_empty() {
             s.draw();
@@ -129,14 +129,14 @@ impl LocalPacket for VecPacket {
     fn dup(&mut self, s: &mut VecStore) -> Result<VecPacket, NoMemory> {
         Ok(VecPacket {
             attrs: copied(s.alloc(), &self.attrs)?,
-            bytes: VecBytes::whole(Vec::from_slice(s.alloc(), self.bytes())?),
+            bytes: VecBytes::of_slice(s.alloc(), self.bytes())?,
         })
     }
 
     fn front(&mut self, n: u32, s: &mut VecStore) -> Result<VecPacket, NoMemory> {
         let front = VecPacket {
             attrs: copied(s.alloc(), &self.attrs)?,
-            bytes: VecBytes::whole(Vec::from_slice(s.alloc(), &self.bytes()[..n as usize])?),
+            bytes: VecBytes::of_slice(s.alloc(), &self.bytes()[..n as usize])?,
         };
         self.bytes.drop_front(n as usize);
         Ok(front)
