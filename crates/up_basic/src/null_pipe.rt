@@ -20,6 +20,8 @@ impl Options for NullStep {
     fn control(&mut self, _c: Command) -> Result<Reply, ControlRefused> {
         Err(ControlRefused::Unhandled)
     }
+
+    ghost within = { λ _. tt };
 }
 
 impl Made<()> for NullStep {

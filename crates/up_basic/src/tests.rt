@@ -1,5 +1,6 @@
 ghost use Rattle.std.specs.Prelude.{◌≤◌, All, length};
 ghost use Rattle.up_model.specs.Packet.{IsLegal};
+ghost use Rattle.up_model.specs.declared.limits.TheConstants.{MAX_PACKET};
 ghost use Rattle.up_shape.specs.VecPackets.{plain_of};
 
 use crate::{DupPipe, Idem, NullPipe};
@@ -98,7 +99,7 @@ fn a_broken_end_puts_nothing_out(rt: HostRuntime) {
 
 /// Adds a packet of these bytes to the flow.
 fn push(rt: &impl Abort, flow: &mut ItemList<VecPacket>, bytes: &[u8], s: &mut VecStore)
-    requires size { length bytes.now ≤ 1048576 }
+    requires size { length bytes.now ≤ MAX_PACKET }
     requires legal { All (λ p. IsLegal (plain_of p)) flow.old }
     ensures { All (λ p. IsLegal (plain_of p)) flow.new }
 {

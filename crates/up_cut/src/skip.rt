@@ -2,18 +2,16 @@ ghost use Rattle.std.specs.Prelude.{◌≡◌, ◌≤◌, refl};
 ghost use Rattle.up_model.specs.Kinds.{setting_of};
 ghost use Rattle.up_model.specs.Skip.{skip_step};
 ghost use Rattle.up_model.specs.declared.kind.Kind.TheVariants as kinds;
+ghost use Rattle.up_model.specs.declared.limits.TheConstants.{MAX_PACKET};
 ghost use Rattle.up_model.specs.declared.opt.Opt.TheVariants.{Offset};
 ghost use Rattle.up_shape.specs.Control.{set_to, kind_after};
 ghost use Rattle.up_shape.specs.declared.control.Command.TheVariants.{Set};
 
 use up_base::NoMemory;
-use up_model::{Opt, Passed};
+use up_model::{MAX_PACKET, Opt, Passed};
 use up_shape::{
     Command, ControlRefused, LocalPacket, Made, Options, PacketStep, Packetwise, Reply,
 };
-
-/// The most bytes that can be taken off a packet.
-const MAX_OFFSET: u32 = 1_048_576;
 
 /// Takes the first bytes off each packet, and drops a packet that has fewer.
 pub type Skip = Packetwise<SkipStep>;
@@ -21,7 +19,7 @@ pub type Skip = Packetwise<SkipStep>;
 #[derive(Debug, Drop)]
 pub struct SkipStep {
     bytes: u32,
-    ghost bounded: { bytes ≤ 1048576 },
+    ghost bounded: { bytes ≤ MAX_PACKET },
 }
 
 impl SkipStep {
@@ -31,10 +29,10 @@ impl SkipStep {
         ensures kind { kinds.Skip self.new.bytes
             ≡ kind_after (kinds.Skip self.old.bytes) (Set Offset value) }
     {
-        if value < 0 || value > i128::from(MAX_OFFSET) {
+        if value < 0 || value > i128::from(MAX_PACKET) {
             return Err(ControlRefused::Invalid {
                 low: 0,
-                high: i128::from(MAX_OFFSET),
+                high: i128::from(MAX_PACKET),
             });
         }
         self.bytes = value as u32;
@@ -52,6 +50,8 @@ impl Options for SkipStep {
             _ => Err(ControlRefused::Unhandled),
         }
     }
+
+    ghost within = { λ skip. skip.bounded };
 }
 
 impl Made<()> for SkipStep {

@@ -9,6 +9,7 @@ pub mod EveryKind
 pub mod ExampleChain
 pub mod ExampleTree
 pub mod Lawful
+pub mod Legality
 pub mod MeaningExamples
 pub mod NullExamples
 pub mod OptionExamples

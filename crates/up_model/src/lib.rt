@@ -13,6 +13,7 @@ mod limits;
 mod lists;
 mod opt;
 mod outcome;
+mod packet_laws;
 mod passed;
 mod pipe;
 mod plain_attrs;
@@ -39,6 +40,7 @@ pub use limits::{
 pub use lists::{GivenBytes, PacketList, PipeList, PlaceList};
 pub use opt::Opt;
 pub use outcome::Outcome;
+pub use packet_laws::packets_stay_legal;
 pub use passed::Passed;
 pub use pipe::{Pipe, default_worker};
 pub use plain_attrs::PlainAttrs;

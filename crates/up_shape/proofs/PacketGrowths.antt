@@ -1,12 +1,13 @@
 -- What a module that looks at each packet by itself puts into an outbox.
-use Rattle.std.proofs.Common.{◌≡◌, ℕ, [], ◌∷◌, ◌++◌, length, sym, ap, ◌∙◌, append-nil}
-use Rattle.up_model.proofs.Packetwise.{with_packet, with_sums, work-passes, work-drops, passed-append}
-use Rattle.up_model.specs.Work.{Work}
+use Rattle.std.proofs.Common.{◌≡◌, ℕ, [], ◌∷◌, ◌++◌, length, sym, ap, ◌∙◌}
+use Rattle.up_model.proofs.Packetwise.{with_packet, with_sums, work-passes, work-drops, passed-append, summed-grows}
 use Rattle.up_model.specs.Packet.{Flow}
 use Rattle.up_model.specs.Packetwise.{Step, passed, work_by}
 use Rattle.up_model.specs.Tallies.{of_passed, of_dropped}
+use Rattle.up_model.specs.Work.{Work}
 use Rattle.up_model.specs.declared.passed.Passed.TheVariants.{Passes, Drops}
 use Rattle.up_model.specs.declared.plain_packet.PlainPacket.{PlainPacket}
+use Rattle.up_shape.proofs.Growths.{puts_nothing}
 use Rattle.up_shape.specs.Growth.{GrewInPart}
 use Rattle.up_shape.specs.Outgoing.{Outgoing}
 
@@ -17,14 +18,10 @@ module _ (step : Step) (work : Flow → Work) (settles : (taken : Flow) → work
   pub one_drops : Drops ≡ step packet → work (fed ++ packet ∷ []) ≡ with_sums (work fed) (of_dropped (length packet.bytes))
   one_drops is = settles _ ∙ work-drops step fed packet (sym is) ∙ ap (λ w. with_sums w (of_dropped (length packet.bytes))) (sym (settles fed))
 
-  -- nothing was put out
-  pub none_put : {P : Type 0} (plain : P → PlainPacket) (old new : Outgoing P) → new.packets ≡ old.packets
+  -- nothing was put out and nothing counted
+  pub none_put : {P : Type 0} (plain : P → PlainPacket) (old new : Outgoing P) → new.packets ≡ old.packets → new.tally ≡ old.tally
       → GrewInPart plain old new (work fed) (work (fed ++ packet ∷ []))
-  none_put plain old new packets = record {
-    given = [];
-    lacking = passed step (packet ∷ []);
-    packets = packets ∙ sym (append-nil old.packets);
-    flow =
-        ap (λ w. w.flow) (settles _) ∙ passed-append step fed (packet ∷ [])
-        ∙ ap (λ front. front ++ passed step (packet ∷ [])) (sym (append-nil (passed step fed)) ∙ ap (λ (w : Work). w.flow ++ []) (sym (settles fed)));
-  }
+  none_put plain old new packets tally =
+      rw (settles fed, settles (fed ++ packet ∷ []))
+      (puts_nothing plain old new (work_by step fed) (work_by step (fed ++ packet ∷ [])) packets tally
+      (passed step (packet ∷ []), passed-append step fed (packet ∷ [])) (summed-grows step fed (packet ∷ [])))

@@ -1,5 +1,5 @@
 ghost use Rattle.std.specs.Prelude.{◌≡◌, IfOk};
-ghost use Rattle.up_model.specs.Kinds.{Work, work_of, settled_work};
+ghost use Rattle.up_model.specs.Kinds.{IsWithinBounds, work_of, settled_work};
 ghost use Rattle.up_model.specs.Packet.{Flow, IsLegal};
 ghost use Rattle.up_model.specs.Packetwise.{Step, IfPasses, work_by};
 ghost use Rattle.up_model.specs.declared.kind.Kind.{Kind};
@@ -20,6 +20,9 @@ pub trait Options: Sized + Drop {
     fn control(&mut self, c: Command) -> Result<Reply, ControlRefused>
         ensures answer { result ≡ answer_to (kind self.old) c }
         ensures kind { kind self.new ≡ kind_after (kind self.old) c };
+
+    /// It is within its bounds.
+    ghost within: { (k : Self) → IsWithinBounds (kind k) };
 }
 
 /// The options of a kind that is made of these fields.
@@ -29,6 +32,7 @@ pub trait Made<Fields>: Options {
 
     /// The options before one is set.
     fn made(fields: Fields) -> Self
+        requires { IsWithinBounds (first fields) }
         ensures { Self.kind result ≡ first fields };
 }
 

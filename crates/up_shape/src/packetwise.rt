@@ -1,4 +1,5 @@
 ghost use Rattle.std.specs.Prelude.{◌≡◌, []};
+ghost use Rattle.up_model.specs.Kinds.{IsWithinBounds};
 ghost use Rattle.up_model.specs.declared.kind.Kind.{Kind};
 
 use crate::packet_step::{Made, PacketStep};
@@ -20,6 +21,7 @@ impl<K: Made<()>> Packetwise<K, ()> {
 
     /// One whose options weren't set, and that was fed nothing.
     pub fn new() -> Packetwise<K, ()>
+        requires bounds { IsWithinBounds (K.first tt) }
         ensures kind { K.kind (step_of result) ≡ K.first tt }
         ensures fed_nothing { StandsFor result [] }
     {
@@ -36,6 +38,7 @@ impl<K: Made<AttrName>> Packetwise<K, AttrName> {
 
     /// One of this attribute, that was fed nothing.
     pub fn new(attr: AttrName) -> Packetwise<K, AttrName>
+        requires bounds { IsWithinBounds (K.first attr) }
         ensures kind { K.kind (step_of result) ≡ K.first attr }
         ensures fed_nothing { StandsFor result [] }
     {
@@ -99,4 +102,8 @@ impl<P: LocalPacket, K: PacketStep<P>, Fields> Module<P> for Packetwise<K, Field
     fn control(&mut self, c: Command) -> Result<Reply, ControlRefused> {
         self.step.control(c)
     }
+
+    ghost holds_nothing = { λ _ _ _. tt };
+
+    ghost within = { λ m. K.Options.within (step_of m) };
 }

@@ -19,7 +19,7 @@ returns-in-Ok-clause-grew g c fed stands =
 pub returns-in-Err-put_out-clause-in_part : goal.returns-in-Err-put_out-clause-in_part
 returns-in-Err-put_out-clause-in_part g c fed stands =
     let k = c.args.self.now.step in
-    none_put (g.K.PacketStep.step k) (settled_work (g.K.Options.kind k)) (g.met.K.PacketStep.settles k) fed _ _ _ _ c.in-Err-put_out.ensures.unchanged
+    none_put (g.K.PacketStep.step k) (settled_work (g.K.Options.kind k)) (g.met.K.PacketStep.settles k) fed _ _ _ _ c.in-Err-put_out.ensures.unchanged c.put_out.ensures.tally
 
 pub returns-in-Ok-Drops-clause-grew : goal.returns-in-Ok-Drops-clause-grew
 returns-in-Ok-Drops-clause-grew g c fed stands =
@@ -33,4 +33,4 @@ returns-in-Ok-Drops-clause-grew g c fed stands =
 pub returns-in-Err-clause-in_part : goal.returns-in-Err-clause-in_part
 returns-in-Err-clause-in_part g c fed stands =
     let k = c.args.self.now.step in
-    none_put (g.K.PacketStep.step k) (settled_work (g.K.Options.kind k)) (g.met.K.PacketStep.settles k) fed _ _ _ _ refl
+    none_put (g.K.PacketStep.step k) (settled_work (g.K.Options.kind k)) (g.met.K.PacketStep.settles k) fed _ _ _ _ refl refl
