@@ -4,3 +4,4 @@ pub mod NumberBytes
 pub mod NumberExamples
 pub mod Numbers
 pub mod Padding
+pub mod Texts

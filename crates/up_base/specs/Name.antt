@@ -1,10 +1,7 @@
 -- Names: 1 to 64 bytes, each a letter or digit of ASCII or one of `.`, `_` and `-`.
-use Rattle.std.specs.Prelude.{ℕ, Bool, ◌&&◌, ◌||◌, not, List, length, take, nat_le, ◌==◌, position, unwrap_or}
+use Rattle.std.specs.Prelude.{ℕ, Bool, ◌&&◌, ◌||◌, not, List, length, take, ◌==◌, position, unwrap_or}
 use Rattle.std.specs.List.{list_all}
-
--- the byte lies from low to high, both included
-abbrev pub is_within : ℕ → ℕ → ℕ → Bool
-is_within low high byte = nat_le low byte && nat_le byte high
+pub use Rattle.up_base.specs.Bounds.{is_within}
 
 -- the byte is one of `A-Z a-z 0-9 . _ -`
 abbrev pub is_name_byte : ℕ → Bool

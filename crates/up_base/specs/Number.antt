@@ -1,5 +1,10 @@
 -- Numbers as bytes, the byte of the highest worth first.
-use Rattle.std.specs.Prelude.{ℕ, zero, suc, ◌+◌, ◌*◌, ◌/◌, ◌%◌, List, [], ◌∷◌, ◌++◌, fold}
+use Rattle.std.specs.Prelude.{ℕ, zero, suc, ◌+◌, ◌*◌, ◌/◌, ◌%◌, ◌<◌, List, [], ◌∷◌, ◌++◌, fold}
+use Rattle.std.specs.List.{All}
+
+-- each of them is a byte
+abbrev pub AreBytes : List ℕ → Type 0
+AreBytes bytes = All (λ byte. byte < 256) bytes
 
 -- the number whose digits to the base 256 are these bytes
 abbrev pub big_endian : List ℕ → ℕ

@@ -1,4 +1,5 @@
-ghost use Rattle.std.specs.Prelude.{◌≡◌, ◌++◌, [], ◌∷◌, IfOk, OnOk, OnErr};
+ghost use Rattle.std.specs.Prelude.{◌≡◌, ◌++◌, [], IfOk, OnOk, OnErr};
+ghost use Rattle.up_base.specs.ItemList.{AddsItem};
 
 use crate::NoMemory;
 use std::alloc::Global;
@@ -39,7 +40,7 @@ impl Bytes {
 
     /// Adds one byte at the end.
     pub fn push(&mut self, b: u8) -> Result<(), NoMemory>
-        ensures added { OnOk result (self.new ≡ self.old ++ b ∷ []) }
+        ensures added { OnOk result (AddsItem b self.old self.new) }
         ensures unchanged { OnErr result (self.new ≡ self.old) }
     {
         self.run.push(b)?;

@@ -1,4 +1,5 @@
-ghost use Rattle.std.specs.Prelude.{◌≡◌, ◌<◌, [], ◌∷◌, ◌++◌, length, slice_get, Some, IfErr, OnErr, OnOk, MatchOption};
+ghost use Rattle.std.specs.Prelude.{◌≡◌, ◌<◌, [], length, OnErr, OnOk};
+ghost use Rattle.up_base.specs.ItemList.{AddsItem, HandsBack, IsAt, TakesFirst};
 
 use std::alloc::Global;
 use std::collections::VecDeque;
@@ -40,9 +41,9 @@ impl<T> ItemList<T> {
 
     /// Adds an item at the end.
     pub fn push(&mut self, item: T) -> Result<(), NoRoom<T>>
-        ensures added { OnOk result (self.new ≡ self.old ++ item ∷ []) }
+        ensures added { OnOk result (AddsItem item self.old self.new) }
         ensures unchanged { OnErr result (self.new ≡ self.old) }
-        ensures back { IfErr result (λ refused. refused.back ≡ item) }
+        ensures back { HandsBack item result }
     {
         match self.queue.push_back(item) {
             Ok(()) => Ok(()),
@@ -62,14 +63,14 @@ impl<T> ItemList<T> {
     /// The item at a place, counted from 0.
     pub fn at(&self, i: usize) -> &T
         requires { i < length self.now }
-        ensures { slice_get self.now i ≡ Some result.now }
+        ensures { IsAt self.now i result.now }
     {
         &self.queue[i]
     }
 
     /// Takes out the first item.
     pub fn next(&mut self) -> Option<T>
-        ensures { MatchOption result ((self.old ≡ []) × (self.new ≡ [])) (λ first. self.old ≡ first ∷ self.new) }
+        ensures { TakesFirst self.old self.new result }
     {
         self.queue.pop_front()
     }

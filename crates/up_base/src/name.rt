@@ -1,4 +1,5 @@
-ghost use Rattle.std.specs.Prelude.{◌≡◌};
+ghost use Rattle.std.specs.Prelude.{◌≡◌, true};
+ghost use Rattle.up_base.specs.Name.{is_name};
 ghost use Rattle.up_base.specs.NameOf.{name_of};
 
 use crate::BadName;
@@ -57,7 +58,8 @@ impl<Of> Name<Of> {
 
     /// The text of the name.
     pub fn bytes(&self) -> &[u8]
-        ensures { result.now ≡ self.now }
+        ensures bytes { result.now ≡ self.now }
+        ensures name { is_name result.now ≡ true }
     {
         self.text.bytes()
     }

@@ -88,7 +88,8 @@ impl NameText {
 
     /// The text of the name.
     pub fn bytes(&self) -> &[u8]
-        ensures { result.now ≡ self.now }
+        ensures bytes { result.now ≡ self.now }
+        ensures name { is_name result.now ≡ true }
     {
         &self.bytes[..self.len as usize]
     }

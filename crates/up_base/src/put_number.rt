@@ -1,6 +1,6 @@
 // Numbers put as big-endian bytes: the byte of the highest worth comes first.
-ghost use Rattle.std.specs.Prelude.{◌≡◌, ℕ, ◌++◌, ◌^◌, ◌<◌, OnOk, OnErr};
-ghost use Rattle.up_base.specs.Number.{big_endian, big_endian_bytes};
+ghost use Rattle.std.specs.Prelude.{◌≡◌, ℕ, ◌^◌, ◌<◌, List, ◌++◌, length, OnOk, OnErr};
+ghost use Rattle.up_base.specs.Number.{AreBytes, big_endian, big_endian_bytes};
 
 use crate::{Bytes, NoMemory};
 
@@ -32,7 +32,15 @@ pub fn put_u64(out: &mut Bytes, v: u64) -> Result<(), NoMemory>
 }
 
 /// A number that was put reads back.
+#[tactic(auto, using(crate::proofs::NumberBytes::number_of_bytes))]
 pub fn reads_back()
     ensures { (count number : ℕ) → number < 256 ^ count
         → big_endian (big_endian_bytes count number) ≡ number }
+{}
+
+/// Bytes that were read as a number are those that it is put as.
+#[tactic(auto, using(crate::proofs::NumberBytes::bytes_of_number))]
+pub fn puts_back()
+    ensures { (bytes : List ℕ) → AreBytes bytes →
+        big_endian_bytes (length bytes) (big_endian bytes) ≡ bytes }
 {}

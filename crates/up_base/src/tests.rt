@@ -1,8 +1,6 @@
-ghost use Rattle.std.specs.Prelude.{◌≡◌};
-
 use crate::{
-    AttrName, BadName, Bytes, Failed, ItemList, Kin, Name, NoMemory, NoRoom, PipeName, Refusal,
-    Text, WordList, WorkerName, read_u16, read_u32, read_u64,
+    AttrName, BadName, Bytes, Failed, Name, NoMemory, PipeName, Refusal, Text, WorkerName,
+    read_u16, read_u32, read_u64,
 };
 use std::process::Abort;
 use std::test::Fail;
@@ -115,71 +113,6 @@ fn the_first_byte_of_a_number_has_the_highest_worth(rt: HostRuntime) {
 }
 
 #[test]
-fn items_come_out_in_the_order_of_their_adding(rt: HostRuntime) -> Result<(), Fail> {
-    let mut list = ItemList::new(rt.alloc());
-    assert_eq!(rt; list.len(), 0);
-    for number in [5, 6, 7] {
-        list.push(number)?;
-    }
-    assert_eq!(rt; list.len(), 3);
-    assert_eq!(rt; [*list.at(0), *list.at(1), *list.at(2)], [5, 6, 7]);
-    assert_eq!(rt; list.next(), Some(5));
-    list.push(8)?;
-    let rest = [list.next(), list.next(), list.next(), list.next()];
-    assert_eq!(rt; rest, [Some(6), Some(7), Some(8), None]);
-    Ok(())
-}
-
-/// A value that can't be dropped.
-struct Token {
-    number: u32,
-}
-
-/// Takes out all tokens, and gives their numbers as one decimal number.
-fn spend(mut list: ItemList<Token>) -> u32 {
-    let mut digits: u32 = 0;
-    while let Some(Token { number }) = list.next() {
-        digits = digits.saturating_mul(10).saturating_add(number);
-    }
-    list.end();
-    digits
-}
-
-#[test]
-fn items_that_cannot_be_dropped_are_taken_out_one_by_one(rt: HostRuntime) {
-    let mut list = ItemList::new(rt.alloc());
-    for number in 1..4 {
-        if let Err(NoRoom { back }) = list.push(Token { number }) {
-            let Token { number } = back;
-            assert_eq!(rt; number, 0, "no room");
-        }
-    }
-    assert_eq!(rt; spend(list), 123);
-}
-
-#[test]
-fn words_come_out_in_the_order_of_their_adding(rt: HostRuntime) -> Result<(), Fail> {
-    let alloc = rt.alloc();
-    let mut list = WordList::new(alloc);
-    for word in ["run", "", "copy.toml"] {
-        list.push(Text::from_str(alloc, word)?)?;
-    }
-    assert_eq!(rt; list.len(), 3);
-    assert_eq!(rt; list.at(2).as_str(), "copy.toml");
-    let slice = list.as_slice();
-    assert_eq!(rt; slice.len(), 3);
-    assert_eq!(rt; slice[0].as_str(), "run");
-    for word in ["run", "", "copy.toml"] {
-        let first = list.next().ok_or("no word")?;
-        assert_eq!(rt; first.as_str(), word);
-    }
-    assert!(rt; list.next().is_none());
-    let empty = WordList::new(alloc);
-    empty.end();
-    Ok(())
-}
-
-#[test]
 fn each_fault_has_its_text(rt: HostRuntime) -> Result<(), Fail> {
     let alloc = rt.alloc();
     let texts = [
@@ -197,37 +130,4 @@ fn each_fault_has_its_text(rt: HostRuntime) -> Result<(), Fail> {
         assert_eq!(rt; text.as_str(), *wanted);
     }
     Ok(())
-}
-
-/// A number that was made for one family.
-struct Stamped {
-    family: u8,
-    number: u8,
-}
-
-impl Kin for Stamped {
-    type Family = u8;
-
-    ghost agrees = { λ stamped family. stamped.family ≡ family };
-}
-
-/// Takes a value that agrees with the family.
-fn admit<K: Kin>(value: K, family: K::Family) -> K
-    requires { K.agrees value family }
-    ensures { result ≡ value }
-{
-    let _ = family;
-    value
-}
-
-#[test]
-fn a_value_is_admitted_to_its_family(rt: HostRuntime) {
-    let Stamped { family, number } = admit(
-        Stamped {
-            family: 3,
-            number: 9,
-        },
-        3,
-    );
-    assert_eq!(rt; (family, number), (3, 9));
 }

@@ -1,4 +1,5 @@
-ghost use Rattle.std.specs.Prelude.{◌≡◌, IfOk};
+ghost use Rattle.std.specs.Prelude.{◌≡◌, true, IfOk};
+ghost use Rattle.std.specs.Str.{is_utf8};
 
 use crate::NoMemory;
 use std::alloc::Global;
@@ -29,15 +30,19 @@ impl Text {
     }
 
     /// The text's bytes.
+    #[tactic(auto, using(crate::proofs::Texts::text_is_utf8))]
     pub fn as_slice(&self) -> &[u8]
-        ensures { result.now ≡ self.now }
+        ensures bytes { result.now ≡ self.now }
+        ensures utf8 { is_utf8 result.now ≡ true }
     {
         self.words.as_bytes()
     }
 
     /// The text.
+    #[tactic(auto, using(crate::proofs::Texts::text_is_utf8))]
     pub fn as_str(&self) -> &str
-        ensures { result.now ≡ self.now }
+        ensures bytes { result.now ≡ self.now }
+        ensures utf8 { is_utf8 result.now ≡ true }
     {
         self.words.as_str()
     }

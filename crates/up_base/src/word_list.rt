@@ -1,4 +1,5 @@
-ghost use Rattle.std.specs.Prelude.{◌≡◌, ◌<◌, [], ◌∷◌, ◌++◌, length, slice_get, Some, IfErr, OnErr, OnOk, MatchOption};
+ghost use Rattle.std.specs.Prelude.{◌≡◌, ◌<◌, [], length, OnErr, OnOk};
+ghost use Rattle.up_base.specs.ItemList.{AddsItem, HandsBack, IsAt, TakesFirst};
 
 use crate::{NoRoom, Text};
 use std::alloc::Global;
@@ -30,9 +31,9 @@ impl WordList {
 
     /// Adds a word at the end.
     pub fn push(&mut self, item: Text) -> Result<(), NoRoom<Text>>
-        ensures added { OnOk result (self.new ≡ self.old ++ item ∷ []) }
+        ensures added { OnOk result (AddsItem item self.old self.new) }
         ensures unchanged { OnErr result (self.new ≡ self.old) }
-        ensures back { IfErr result (λ refused. refused.back ≡ item) }
+        ensures back { HandsBack item result }
     {
         match self.words.push(item) {
             Ok(()) => Ok(()),
@@ -52,7 +53,7 @@ impl WordList {
     /// The word at a place, counted from 0.
     pub fn at(&self, i: usize) -> &Text
         requires { i < length self.now }
-        ensures { slice_get self.now i ≡ Some result.now }
+        ensures { IsAt self.now i result.now }
     {
         &self.words[i]
     }
@@ -66,7 +67,7 @@ impl WordList {
 
     /// Takes out the first word. The others move up.
     pub fn next(&mut self) -> Option<Text>
-        ensures { MatchOption result ((self.old ≡ []) × (self.new ≡ [])) (λ first. self.old ≡ first ∷ self.new) }
+        ensures { TakesFirst self.old self.new result }
     {
         if self.words.is_empty() {
             return None;

@@ -1,7 +1,7 @@
 -- Worked examples of the header's fields and of the payload's place, computed.
 use Rattle.std.proofs.Common.{◌≡◌, ℕ, List, [], ◌∷◌, true, false, Some, None, refl}
-use Rattle.up_ts.specs.Header.{transport_error_indicator, payload_unit_start_indicator, transport_priority, packet_identifier, transport_scrambling_control, adaptation_field_control, continuity_counter}
-use Rattle.up_ts.specs.Packet.{bits}
+use Rattle.up_ts.specs.Header.{transport_error_indicator, payload_unit_start_indicator, transport_priority, transport_scrambling_control, adaptation_field_control, continuity_counter}
+use Rattle.up_base.specs.Transport.{bits, packet_identifier}
 use Rattle.up_ts.specs.Payload.{payload_start}
 
 -- 1011 0110: the three bits above the lowest two are 101

@@ -1,6 +1,6 @@
--- The fields of a packet's bytes 1 to 3: ISO/IEC 13818-1, 2.4.3.2. Bit 7 of a byte is the highest.
-use Rattle.std.specs.Prelude.{◌≡◌, ℕ, ◌+◌, ◌*◌, Bool, ◌==◌, List, slice_index}
-use Rattle.up_ts.specs.Packet.{bits}
+-- The fields of a packet's bytes 1 to 3, beside the PID: ISO/IEC 13818-1, 2.4.3.2. Bit 7 of a byte is the highest.
+use Rattle.std.specs.Prelude.{◌≡◌, ℕ, Bool, ◌==◌, List, slice_index}
+use Rattle.up_base.specs.Transport.{bits, packet_identifier}
 use Rattle.up_ts.specs.declared.ts_header.TsHeader.{TsHeader}
 
 -- byte 1, bit 7
@@ -14,10 +14,6 @@ payload_unit_start_indicator packet = bits (slice_index packet 1) 6 1 == 1
 -- byte 1, bit 5
 abbrev pub transport_priority : List ℕ → Bool
 transport_priority packet = bits (slice_index packet 1) 5 1 == 1
-
--- byte 1, bits 4 to 0, and byte 2
-abbrev pub packet_identifier : List ℕ → ℕ
-packet_identifier packet = bits (slice_index packet 1) 0 5 * 256 + slice_index packet 2
 
 -- byte 3, bits 7 and 6
 abbrev pub transport_scrambling_control : List ℕ → ℕ

@@ -1,4 +1,3 @@
 pub mod Header
-pub mod Packet
 pub mod Payload
 pub mod Refusal

@@ -8,7 +8,7 @@ mod tests;
 mod ts_header;
 mod ts_refused;
 
-pub use packet::{NULL_PID, SYNC_BYTE, TS_SIZE};
 pub use payload::payload_at;
 pub use ts_header::{TsHeader, header};
 pub use ts_refused::TsRefused;
+pub use up_base::{NULL_PID, SYNC_BYTE, TS_SIZE};

@@ -1,12 +1,3 @@
-/// The size of a packet in bytes.
-pub const TS_SIZE: usize = 188;
-
-/// sync_byte, with which each packet begins.
-pub const SYNC_BYTE: u8 = 0x47;
-
-/// The PID of null packets, which carry nothing.
-pub const NULL_PID: u16 = 0x1FFF;
-
 /// The size in bytes of the header, which begins each packet.
 pub const HEADER_SIZE: usize = 4;
 

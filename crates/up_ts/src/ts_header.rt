@@ -1,9 +1,10 @@
-ghost use Rattle.std.specs.Prelude.{◌↔◌, IsOk, IfOk, IfErr};
+ghost use Rattle.std.specs.Prelude.{◌≡◌, ◌↔◌, true, IsOk, IfOk, IfErr};
+ghost use Rattle.up_base.specs.Transport.{is_ts_packet};
 ghost use Rattle.up_ts.specs.Header.{IsHeader};
-ghost use Rattle.up_ts.specs.Packet.{IsPacket};
 ghost use Rattle.up_ts.specs.Refusal.{IsNoPacket};
 
-use crate::{SYNC_BYTE, TS_SIZE, TsRefused};
+use crate::TsRefused;
+use up_base::{SYNC_BYTE, TS_SIZE, pid_of};
 
 /// The fields of a packet's bytes 1 to 3: ISO/IEC 13818-1, 2.4.3.2.
 #[derive(Clone, Copy, Debug, PartialEq, Eq)]
@@ -26,7 +27,7 @@ pub struct TsHeader {
 
 /// Reads the header of one packet.
 pub fn header(b: &[u8]) -> Result<TsHeader, TsRefused>
-    ensures taken { IsOk result ↔ IsPacket b.now }
+    ensures taken { IsOk result ↔ (is_ts_packet b.now ≡ true) }
     ensures fields { IfOk result (IsHeader b.now) }
     ensures cause { IfErr result (IsNoPacket b.now) }
 {
@@ -40,7 +41,7 @@ pub fn header(b: &[u8]) -> Result<TsHeader, TsRefused>
         error: b[1] / 128 == 1,
         start: b[1] / 64 % 2 == 1,
         priority: b[1] / 32 % 2 == 1,
-        pid: u16::from(b[1] % 32) * 256 + u16::from(b[2]),
+        pid: pid_of(b),
         scrambling: b[3] / 64,
         adaptation: b[3] / 16 % 4,
         counter: b[3] % 16,
