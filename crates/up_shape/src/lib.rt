@@ -15,6 +15,7 @@ mod packetwise;
 mod plain_copy;
 mod stash;
 mod trial;
+mod trial_packet;
 mod vec_bytes;
 mod vec_packet;
 mod vec_room;
