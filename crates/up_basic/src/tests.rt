@@ -52,7 +52,10 @@ fn idem_and_dup_pass_on_what_they_take(rt: HostRuntime) {
 #[test]
 fn null_takes_all_and_counts_it(rt: HostRuntime) {
     let alloc = rt.alloc();
-    assert_eq!(rt; tried(alloc, NullPipe::new(), &DROPPED), DROPPED.wanted(alloc));
+    assert_eq!(rt;
+        tried(alloc, NullPipe::new(), &DROPPED),
+        DROPPED.wanted(alloc)
+    );
 }
 
 #[test]
@@ -83,7 +86,10 @@ fn the_greatest_packet_is_passed_on_and_dropped(rt: HostRuntime) -> Result<(), F
         },
         ..DROPPED
     };
-    assert_eq!(rt; tried(alloc, NullPipe::new(), &dropped), dropped.wanted(alloc));
+    assert_eq!(rt;
+        tried(alloc, NullPipe::new(), &dropped),
+        dropped.wanted(alloc)
+    );
     Ok(())
 }
 
@@ -131,9 +137,18 @@ const OPTIONS: [Opt; 7] = [
 fn none_has_an_option(rt: HostRuntime) {
     let s = &mut VecStore::new(rt.alloc());
     for option in OPTIONS {
-        assert_eq!(rt; asked(Idem::new(), option, s), Err(ControlRefused::Unhandled));
-        assert_eq!(rt; asked(DupPipe::new(), option, s), Err(ControlRefused::Unhandled));
-        assert_eq!(rt; asked(NullPipe::new(), option, s), Err(ControlRefused::Unhandled));
+        assert_eq!(rt;
+            asked(Idem::new(), option, s),
+            Err(ControlRefused::Unhandled)
+        );
+        assert_eq!(rt;
+            asked(DupPipe::new(), option, s),
+            Err(ControlRefused::Unhandled)
+        );
+        assert_eq!(rt;
+            asked(NullPipe::new(), option, s),
+            Err(ControlRefused::Unhandled)
+        );
     }
 }
 
