@@ -1,5 +1,6 @@
 -- What a module that looks at each packet by itself puts into an outbox.
-use Rattle.std.proofs.Common.{◌≡◌, ℕ, [], ◌∷◌, ◌++◌, length, sym, ap, ◌∙◌}
+use Rattle.std.proofs.Common.{◌≡◌, ℕ, [], ◌∷◌, ◌++◌, length, Result, Ok, Err, sym, ap, ◌∙◌}
+use Rattle.std.specs.Prelude.{OnErr}
 use Rattle.up_model.proofs.Packetwise.{with_packet, with_sums, work-passes, work-drops, passed-append, summed-grows}
 use Rattle.up_model.specs.Packet.{Flow}
 use Rattle.up_model.specs.Packetwise.{Step, passed, work_by}
@@ -25,3 +26,8 @@ module _ (step : Step) (work : Flow → Work) (settles : (taken : Flow) → work
       rw (settles fed, settles (fed ++ packet ∷ []))
       (puts_nothing plain old new (work_by step fed) (work_by step (fed ++ packet ∷ [])) packets tally
       (passed step (packet ∷ []), passed-append step fed (packet ∷ [])) (summed-grows step fed (packet ∷ [])))
+
+-- what is so anyway is so of what is Err
+pub if_refused : {T E : Type 0} (r : Result T E) (IsSo : Type 0) → IsSo → OnErr r IsSo
+if_refused (Ok x) IsSo so = tt
+if_refused (Err e) IsSo so = so

@@ -1,11 +1,17 @@
 -- What comes of a module that is tried.
-use Rattle.std.proofs.Common.{◌≡◌, ℕ, List, [], ◌∷◌, ◌++◌, map, Result, Ok, Err, refl, ap, sym, ◌∙◌, arith}
+use Rattle.std.proofs.Common.{◌≡◌, ℕ, ◌≤◌, List, [], ◌∷◌, ◌++◌, length, map, Result, Ok, Err, refl, ap, sym, ◌∙◌, arith}
+use Rattle.std.proofs.lemmas.List.Elements.{All-nil}
+use Rattle.std.specs.FinMap.{entries, len, len-entries}
 use Rattle.std.specs.Prelude.{IfOk}
 use Rattle.up_model.specs.Kinds.{work_of}
+use Rattle.up_model.specs.Packet.{IsLegal}
 use Rattle.up_model.specs.Tallies.{nothing, plus, added, stopped}
 use Rattle.up_model.specs.Work.{Work, no_work}
 use Rattle.up_model.specs.declared.kind.Kind.{Kind}
+use Rattle.up_model.specs.declared.limits.TheConstants.{MAX_PACKET}
+use Rattle.up_model.specs.declared.plain_packet.PlainPacket.{PlainPacket}
 use Rattle.up_model.specs.declared.tally.Tally.{Tally}
+use Rattle.up_model.specs.declared.value.Value.{Value}
 use Rattle.up_shape.specs.Growth.{Grew}
 use Rattle.up_shape.specs.Outgoing.{Outgoing}
 use Rattle.up_shape.specs.Trials.{IsWorkOf, copies, plain_flow}
@@ -36,3 +42,18 @@ module _ (kind : Kind) (taken : List (List ℕ)) (old new : Outgoing VecPacket) 
         sums ∙ grew.tally ∙ ap (λ tally. added tally grew.growth) uncounted
         ∙ kept_from_nothing grew.growth ∙ ap stopped (sym grew.sums);
   }
+
+no_entries : (es : List (List ℕ × Value)) → length es ≡ 0 → es ≡ []
+no_entries [] none = refl
+no_entries (e ∷ es) none = absurd (omega arith)
+
+-- a packet without attributes, within the size of one, is legal
+pub bare_is_legal : (packet : PlainPacket) → len packet.attrs ≡ 0 → length packet.bytes ≤ MAX_PACKET → IsLegal packet
+bare_is_legal packet none few =
+    let is_empty : entries packet.attrs ≡ [] = no_entries _ (sym (len-entries packet.attrs) ∙ none) in
+    record {
+      few = omega (arith, none);
+      names = rw is_empty (All-nil _);
+      values = rw is_empty (All-nil _);
+      size = few;
+    }

@@ -15,6 +15,7 @@ mod packetwise;
 mod plain_copy;
 mod stash;
 mod trial;
+mod trial_packet;
 mod vec_bytes;
 mod vec_packet;
 mod vec_room;
@@ -30,11 +31,15 @@ pub use packet::Packet;
 pub use packet_step::{Made, Options, PacketStep};
 pub use packetwise::Packetwise;
 pub use stash::{MAX_KEPT, Stash};
+pub use trial::{Came, Trial, Untried, is_bare, tried};
+pub use trial_packet::{TrialPacket, TrialStore};
 pub use up_model::Opt;
 pub use vec_packet::VecPacket;
 pub use vec_room::VecRoom;
 pub use vec_store::VecStore;
 
+#[cfg(test)]
+mod module_tests;
 #[cfg(test)]
 mod outbox_tests;
 #[cfg(test)]

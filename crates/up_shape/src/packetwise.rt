@@ -62,20 +62,14 @@ impl<P: LocalPacket, K: PacketStep<P>, Fields> Module<P> for Packetwise<K, Field
     fn feed(&mut self, p: P, out: &mut Outbox<P>, s: &mut P::Store) -> Result<(), NoMemory> {
         self.fed = true;
         let size = p.size();
-        match self.step.pass(p, s) {
-            Ok(Passed::Passes { packet, cut }) => match put_out(packet, out, s) {
-                Ok(()) => {
-                    out.add_tally(Tally::of_passed(cut));
-                    Ok(())
-                }
-                Err(NoMemory) => Err(NoMemory),
-            },
-            Ok(Passed::Drops) => {
-                out.add_tally(Tally::of_dropped(u64::from(size)));
-                Ok(())
+        match self.step.pass(p, s)? {
+            Passed::Passes { packet, cut } => {
+                put_out(packet, out, s)?;
+                out.add_tally(Tally::of_passed(cut));
             }
-            Err(NoMemory) => Err(NoMemory),
+            Passed::Drops => out.add_tally(Tally::of_dropped(u64::from(size))),
         }
+        Ok(())
     }
 
     fn finish(self, _out: &mut Outbox<P>, _s: &mut P::Store) -> Result<(), NoMemory> {

@@ -1,5 +1,5 @@
 // Modules, tried with packets of vectors: a test of a kind is a table of trials and one loop.
-ghost use Rattle.std.specs.Prelude.{◌≡◌, ◌++◌, [], ◌∷◌, All, map, IfOk, OnOk};
+ghost use Rattle.std.specs.Prelude.{◌≡◌, ◌++◌, [], ◌∷◌, All, map, IfOk, OnOk, IsTrue};
 ghost use Rattle.up_model.specs.Packet.{IsLegal, plain};
 ghost use Rattle.up_shape.specs.Trials.{kind_with, plain_flow, all_bytes, copies, IsWorkOf};
 ghost use Rattle.up_shape.specs.VecPackets.{plain_of};
@@ -96,6 +96,13 @@ pub fn tried<M: Module<VecPacket>>(
             Err(Untried::NoMemory)
         }
     }
+}
+
+/// Whether the packet has no attribute and at most `MAX_PACKET` bytes, so that it is legal.
+pub fn is_bare<P: LocalPacket>(p: &P) -> bool
+    ensures { IsTrue result → IsLegal (P.plain p.now) }
+{
+    p.attr_count() == 0 && p.size() <= MAX_PACKET
 }
 
 /// Sets the options, in order.
