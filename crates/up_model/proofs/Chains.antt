@@ -1,12 +1,13 @@
 -- A chain passes on what its source puts out.
 use Rattle.std.proofs.Common.{◌≡◌, ℕ, zero, suc, ◌+◌, ◌<◌, List, [], ◌∷◌, length, Option, Some, slice_get, refl, ap, ◌∙◌, add-one, arith}
 use Rattle.up_model.proofs.Packetwise.{passed-on}
-use Rattle.up_model.specs.Chain.{IsChain, IsRawSource}
-use Rattle.up_model.specs.Kinds.{module_kind, share_of}
-use Rattle.up_model.specs.Meaning.{done_by, selected, shared, taken_by, work_at, flow_within, flow_at, sink_bytes}
+use Rattle.up_model.specs.Chain.{IsChain, IsRawSource, IsRawSink}
+use Rattle.up_model.specs.Kinds.{module_kind, share_of, written_of}
+use Rattle.up_model.specs.Meaning.{done_by, selected, shared, taken_by, work_at, flow_within, flow_at, input_of, sink_bytes}
 use Rattle.up_model.specs.Packet.{Flow, joined}
+use Rattle.up_model.specs.declared.form.SinkForm.TheVariants.{Raw}
 use Rattle.up_model.specs.declared.kind.Kind.{Kind}
-use Rattle.up_model.specs.declared.kind.Kind.TheVariants.{Source, Idem}
+use Rattle.up_model.specs.declared.kind.Kind.TheVariants.{Source, Sink, Idem}
 use Rattle.up_model.specs.declared.pipe.Pipe.{Pipe}
 
 -- what stands at a place of the list
@@ -22,6 +23,10 @@ source_puts kind numbers own taken is = absurd is
 source_shares : (kind : Kind) (select : Option ℕ) (flow : Flow) → IsRawSource kind → share_of kind select flow ≡ flow
 source_shares (Source path form limit) select flow is = refl
 source_shares kind select flow is = absurd is
+
+sink_writes : (kind : Kind) (taken : Flow) → IsRawSink kind → written_of kind taken ≡ joined taken
+sink_writes (Sink path Raw) taken is = refl
+sink_writes kind taken is = absurd is
 
 module _ (pipes : List Pipe) (chain : IsChain pipes) where
   -- the pipe after a place takes the whole flow that is put out there
@@ -61,5 +66,6 @@ sink_bytes-chain pipes given zero sink chain last at = absurd (omega (arith, cha
 sink_bytes-chain pipes given (suc before) sink chain last at =
     let input : sink.input ≡ Some before = chain.input before sink (rw add-one at) in
     let flows = flow_at pipes given in
-    rw (input, takes_all pipes chain before sink.select (flows before) (omega arith))
+    sink_writes sink.kind (input_of pipes given sink) (chain.sink (suc before) sink last at)
+    ∙ rw (input, takes_all pipes chain before sink.select (flows before) (omega arith))
     (ap joined (chain_flow pipes chain given before (length pipes) (omega arith) (omega arith)))

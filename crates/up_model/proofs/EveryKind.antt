@@ -1,7 +1,7 @@
 -- Every kind keeps the laws: one row a kind.
 use Rattle.std.proofs.Common.{refl}
 use Rattle.up_model.proofs.Ends.{source_is_lawful, sink_is_lawful}
-use Rattle.up_model.proofs.Lawful.{IsLawful, by_packets, no_option_is_set}
+use Rattle.up_model.proofs.Lawful.{IsLawful, by_packets, no_options_kept, whole_shares}
 use Rattle.up_model.proofs.Skip.{skip_is_lawful}
 use Rattle.up_model.specs.KindMeaning.{no_options}
 use Rattle.up_model.specs.Packetwise.{passes_on, drops}
@@ -10,20 +10,23 @@ use Rattle.up_model.specs.declared.kind.Kind.TheVariants.{Source, Sink, Idem, Nu
 
 idem_is_lawful : IsLawful Idem
 idem_is_lawful = record {
-  flows = by_packets (Unit {0}) passes_on no_options (λ within packet legal. legal);
-  options = no_option_is_set Idem (λ option. refl);
+  flows = λ within. by_packets (Unit {0}) passes_on no_options (λ packet legal. legal);
+  options = no_options_kept Idem (λ option. refl);
+  shares = whole_shares Idem (λ select flow. refl) (λ numbers. refl);
 }
 
 null_is_lawful : IsLawful Null
 null_is_lawful = record {
-  flows = by_packets (Unit {0}) drops no_options (λ within packet legal. tt);
-  options = no_option_is_set Null (λ option. refl);
+  flows = λ within. by_packets (Unit {0}) drops no_options (λ packet legal. tt);
+  options = no_options_kept Null (λ option. refl);
+  shares = whole_shares Null (λ select flow. refl) (λ numbers. refl);
 }
 
 dup_is_lawful : IsLawful Dup
 dup_is_lawful = record {
-  flows = by_packets (Unit {0}) passes_on no_options (λ within packet legal. legal);
-  options = no_option_is_set Dup (λ option. refl);
+  flows = λ within. by_packets (Unit {0}) passes_on no_options (λ packet legal. legal);
+  options = no_options_kept Dup (λ option. refl);
+  shares = whole_shares Dup (λ select flow. refl) (λ numbers. refl);
 }
 
 pub lawful : (kind : Kind) → IsLawful kind

@@ -1,11 +1,13 @@
 pub mod AttrLists
-pub mod BranchExamples
+pub mod Carried
 pub mod Chains
 pub mod Cuts
 pub mod CuttingExamples
 pub mod Ends
+pub mod EndsExamples
 pub mod EveryKind
 pub mod ExampleChain
+pub mod ExampleTree
 pub mod Lawful
 pub mod Legality
 pub mod MeaningExamples
@@ -19,4 +21,5 @@ pub mod Skip
 pub mod SkipExamples
 pub mod SortedEntries
 pub mod TallyExamples
+pub mod TreeExamples
 pub mod ValueExamples

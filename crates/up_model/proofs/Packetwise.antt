@@ -1,12 +1,12 @@
 -- What holds of every kind that looks at each packet by itself.
-use Rattle.std.proofs.Common.{◌≡◌, [], ◌∷◌, ◌++◌, List, length, All, Option, Some, None, refl, sym, ap, ◌∙◌, arith, append-nil, add-zero, zero-add}
+use Rattle.std.proofs.Common.{◌≡◌, ◌+◌, [], ◌∷◌, ◌++◌, List, length, All, Option, Some, None, refl, sym, ap, ◌∙◌, arith, append-nil, length-append}
 use Rattle.std.specs.Prelude.{filter_map}
 use Rattle.std.specs.List.{cons_option}
 use Rattle.std.proofs.lemmas.List.Elements.{All-cons, All-head, All-tail}
-use Rattle.up_model.specs.Packet.{PlainPacket, Flow, IsLegal}
+use Rattle.up_model.specs.Packet.{PlainPacket, Flow, IsLegal, joined}
 use Rattle.up_model.specs.Packetwise.{Step, put_of, sums_of, passed, summed, work_by, passes_on, IfPasses}
 use Rattle.up_model.specs.Tallies.{nothing, plus, IsAtMost, of_passed, of_dropped}
-use Rattle.up_model.specs.Work.{Work}
+use Rattle.up_model.specs.Work.{Work, Counts, CutsTheRest}
 use Rattle.up_model.specs.declared.passed.Passed.{Passed}
 use Rattle.up_model.specs.declared.passed.Passed.TheVariants.{Passes, Drops}
 use Rattle.up_model.specs.declared.tally.Tally.{Tally}
@@ -95,3 +95,41 @@ pub passed_is_legal : (step : Step) → KeepsLegal step → (taken : Flow) → A
 passed_is_legal step keeps [] legal = legal
 passed_is_legal step keeps (packet ∷ taken) legal =
     put_is_legal (step packet) (passed step taken) (keeps packet (All-head IsLegal packet taken legal)) (passed_is_legal step keeps taken (All-tail IsLegal packet taken legal))
+
+-- the sums of one packet count it as taken, and as put out where it is
+counts_taken : (packet : PlainPacket) (p : Passed PlainPacket) → (sums_of packet p).taken ≡ 1
+counts_taken packet (Passes put cut) = refl
+counts_taken packet Drops = refl
+
+counts_put : (packet : PlainPacket) (p : Passed PlainPacket) (rest : Flow) → (sums_of packet p).put + length rest ≡ length (cons_option (put_of p) rest)
+counts_put packet (Passes put cut) rest = omega arith
+counts_put packet Drops rest = omega arith
+
+summed_taken : (step : Step) (taken : Flow) → (summed step taken).taken ≡ length taken
+summed_taken step [] = refl
+summed_taken step (packet ∷ taken) = omega (arith, counts_taken packet (step packet), summed_taken step taken)
+
+summed_put : (step : Step) (taken : Flow) → (summed step taken).put ≡ length (passed step taken)
+summed_put step [] = refl
+summed_put step (packet ∷ taken) = omega (arith, counts_put packet (step packet) (passed step taken), summed_put step taken)
+
+-- so do those of a flow
+pub work_counts : (step : Step) (taken : Flow) → Counts (work_by step taken) taken
+work_counts step taken = record { packets_taken = summed_taken step taken; packets_put = summed_put step taken }
+
+-- what is cut off a packet and what goes on are its bytes
+abbrev pub IsCutOf : PlainPacket → Passed PlainPacket → Type 0
+IsCutOf packet (Passes put cut) = cut + length put.bytes ≡ length packet.bytes
+IsCutOf packet Drops = Unit {0}
+
+cut_of_next : (packet : PlainPacket) (p : Passed PlainPacket) (sums : Tally) (rest taken : Flow) → IsCutOf packet p
+    → sums.cut + length (joined rest) ≡ length (joined taken)
+    → (plus (sums_of packet p) sums).cut + length (joined (cons_option (put_of p) rest)) ≡ length (joined (packet ∷ taken))
+cut_of_next packet (Passes put cut) sums rest taken is before =
+    omega (arith, length-append put.bytes (joined rest), length-append packet.bytes (joined taken), is, before)
+cut_of_next packet Drops sums rest taken is before = omega (arith, length-append packet.bytes (joined taken), before)
+
+-- of a flow too
+pub work_cuts : (step : Step) → ((packet : PlainPacket) → IsCutOf packet (step packet)) → (taken : Flow) → CutsTheRest (work_by step taken) taken
+work_cuts step is [] = refl
+work_cuts step is (packet ∷ taken) = cut_of_next packet (step packet) (summed step taken) (passed step taken) taken (is packet) (work_cuts step is taken)

@@ -1,5 +1,5 @@
 -- What the meaning of a kind of pipe consists of: one record a kind.
-use Rattle.std.specs.Prelude.{ℕ, ℤ, List, Option, None}
+use Rattle.std.specs.Prelude.{ℕ, ℤ, int_le, Bool, ◌&&◌, List, [], Option, None}
 use Rattle.up_model.specs.Packet.{Flow}
 use Rattle.up_model.specs.declared.kind.Kind.{Kind}
 use Rattle.up_model.specs.declared.opt.Opt.{Opt}
@@ -12,8 +12,12 @@ pub record Setting : Type 0 where
   pub high : ℤ
   pub set : ℤ → Kind
 
+-- the value lies within the bounds of the option
+abbrev pub admits : Setting → ℤ → Bool
+admits setting value = int_le setting.low value && int_le value setting.high
+
 pub record KindMeaning : Type 1 where
-  -- its fields are within their bounds
+  -- what the fields of every pipe and every module of the kind keep
   pub IsWithin : Type 0
   -- what it puts out for what it takes, and what of that when the flow goes on
   pub output : Flow → Flow
@@ -26,6 +30,8 @@ pub record KindMeaning : Type 1 where
   pub share : Option ℕ → Flow → Flow
   -- the kind that its module has in place of its own, by the numbers that its consumers select
   pub stand_in : List ℕ → Option Kind
+  -- the bytes that it writes of what it takes
+  pub written : Flow → List ℕ
 
 abbrev pub no_options : Opt → Option Setting
 no_options option = None
@@ -37,3 +43,7 @@ whole_share select flow = flow
 -- its module has its own kind
 abbrev pub no_stand_in : List ℕ → Option Kind
 no_stand_in numbers = None
+
+-- it is no sink
+abbrev pub writes_nothing : Flow → List ℕ
+writes_nothing taken = []

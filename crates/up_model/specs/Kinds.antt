@@ -55,6 +55,10 @@ with_option kind option value = set_by kind value (setting_of kind option)
 abbrev pub share_of : Kind → Option ℕ → Flow → Flow
 share_of kind select flow = (meaning_of kind).share select flow
 
+-- the bytes that a pipe of the kind writes of what it takes: none but a sink's
+abbrev pub written_of : Kind → Flow → List ℕ
+written_of kind taken = (meaning_of kind).written taken
+
 -- the kind that its module has, by the numbers that its consumers select
 abbrev pub module_kind : List ℕ → Kind → Kind
 module_kind numbers kind = unwrap_or ((meaning_of kind).stand_in numbers) kind

@@ -1,5 +1,4 @@
 pub mod Attrs
-pub mod Branch
 pub mod Chain
 pub mod Cutting
 pub mod Ends

@@ -1,7 +1,7 @@
 -- What each pipe of a graph puts out, and what each sink is to hold. The recursion follows inputs back to a source.
 use Rattle.std.specs.Prelude.{ℕ, zero, suc, ◌==◌, List, [], length, slice_get, filter_map, Option, Some, None, option_and_then, if◌then◌else◌}
-use Rattle.up_model.specs.Kinds.{work_of, share_of, module_kind}
-use Rattle.up_model.specs.Packet.{Flow, joined}
+use Rattle.up_model.specs.Kinds.{work_of, share_of, module_kind, written_of}
+use Rattle.up_model.specs.Packet.{Flow}
 use Rattle.up_model.specs.Tallies.{of_source, stopped}
 use Rattle.up_model.specs.Work.{Work, no_work}
 use Rattle.up_model.specs.declared.kind.Kind.{Kind}
@@ -63,4 +63,4 @@ tally_at pipes given place =
 
 -- the bytes that a sink is to hold
 abbrev pub sink_bytes : List Pipe → (ℕ → Flow) → Pipe → List ℕ
-sink_bytes pipes given sink = joined (input_of pipes given sink)
+sink_bytes pipes given sink = written_of sink.kind (input_of pipes given sink)

@@ -1,6 +1,6 @@
--- Kinds that look at each packet by itself and hold nothing back.
+-- Kinds that look at each packet by itself, hold nothing back and remember nothing.
 use Rattle.std.specs.Prelude.{[], ◌∷◌, length, Option, Some, None, filter_map}
-use Rattle.up_model.specs.KindMeaning.{KindMeaning, Setting, whole_share, no_stand_in}
+use Rattle.up_model.specs.KindMeaning.{KindMeaning, Setting, whole_share, no_stand_in, writes_nothing}
 use Rattle.up_model.specs.Packet.{PlainPacket, Flow, IsLegal}
 use Rattle.up_model.specs.Tallies.{nothing, plus, of_passed, of_dropped}
 use Rattle.up_model.specs.Work.{Work}
@@ -45,6 +45,7 @@ packetwise IsWithin step setting = record {
   setting = setting;
   share = whole_share;
   stand_in = no_stand_in;
+  written = writes_nothing;
 }
 
 -- every packet is put out as it is

@@ -27,9 +27,13 @@ pub record IsAtMost (a b : Tally) : Type 0 where
   pub gained : a.gained ≤ b.gained
   pub lost : a.lost ≤ b.lost
 
--- a sum that is kept, and more; it stops at 2^64 - 1
+-- where a sum that is kept stops
+abbrev pub greatest_sum : ℕ
+greatest_sum = 2 ^ 64 - 1
+
+-- a sum that is kept, and more; it stops
 abbrev pub more : ℕ → ℕ → ℕ
-more sum count = max sum (min (sum + count) (2 ^ 64 - 1))
+more sum count = max sum (min (sum + count) greatest_sum)
 
 -- six sums that are kept, and more
 abbrev pub added : Tally → Tally → Tally
@@ -45,12 +49,12 @@ added a b = record {
 -- six sums, kept since the start
 abbrev pub stopped : Tally → Tally
 stopped sums = record {
-  taken = min sums.taken (2 ^ 64 - 1);
-  put = min sums.put (2 ^ 64 - 1);
-  dropped = min sums.dropped (2 ^ 64 - 1);
-  cut = min sums.cut (2 ^ 64 - 1);
-  gained = min sums.gained (2 ^ 64 - 1);
-  lost = min sums.lost (2 ^ 64 - 1);
+  taken = min sums.taken greatest_sum;
+  put = min sums.put greatest_sum;
+  dropped = min sums.dropped greatest_sum;
+  cut = min sums.cut greatest_sum;
+  gained = min sums.gained greatest_sum;
+  lost = min sums.lost greatest_sum;
 }
 
 -- one packet was taken and put out, less so many bytes
@@ -65,6 +69,6 @@ of_dropped bytes = record { taken = 1; put = 0; dropped = 1; cut = bytes; gained
 abbrev pub of_source : Flow → Tally
 of_source put = record { taken = 0; put = length put; dropped = 0; cut = 0; gained = 0; lost = 0 }
 
--- a sink took these packets
+-- these packets were taken, as by a sink
 abbrev pub of_sink : Flow → Tally
 of_sink taken = record { taken = length taken; put = 0; dropped = 0; cut = 0; gained = 0; lost = 0 }

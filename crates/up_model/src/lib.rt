@@ -29,14 +29,15 @@ pub use form::{SinkForm, SourceForm};
 pub use graph::Graph;
 pub use kind::Kind;
 pub use laws::{
-    blocks_rejoin, chain_copies, kept_sums_stop, options_are_set, outputs_are_legal,
-    settled_is_prefix, settled_sums_grow, starts_with_nothing, sums_add_up,
+    blocks_rejoin, carried_is_legal, chain_copies, cut_is_the_rest, kept_sums_stop,
+    options_are_set, outputs_are_legal, settled_is_prefix, settled_sums_grow, shares_are_lawful,
+    starts_with_nothing, sums_add_up, sums_count_packets,
 };
 pub use limits::{
-    DEFAULT_BLOCK, DEFAULT_QUEUE, MAX_ATTRS, MAX_GRAPH, MAX_LIMIT, MAX_PACKET, MAX_PATH, MAX_PIPES,
-    MAX_VALUE,
+    DEFAULT_BLOCK, DEFAULT_QUEUE, MAX_ATTRS, MAX_BLOCK, MAX_GRAPH, MAX_LIMIT, MAX_PACKET, MAX_PATH,
+    MAX_PID, MAX_PIPES, MAX_VALUE,
 };
-pub use lists::{GivenBytes, OutcomeList, PacketList, PipeList, PlaceList, TallyList};
+pub use lists::{GivenBytes, PacketList, PipeList, PlaceList};
 pub use opt::Opt;
 pub use outcome::Outcome;
 pub use packet_laws::packets_stay_legal;

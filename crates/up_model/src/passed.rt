@@ -1,7 +1,7 @@
 /// What becomes of one packet, where a kind looks at each by itself.
 #[derive(Debug)]
 pub enum Passed<P> {
-    /// This packet is put out, which has so many bytes fewer.
+    /// This packet is put out, and so many bytes are counted as cut.
     Passes { packet: P, cut: u64 },
     /// None is put out.
     Drops,

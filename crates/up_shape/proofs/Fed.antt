@@ -2,7 +2,7 @@
 use Rattle.std.proofs.Common.{◌≡◌, List, [], ◌∷◌, ◌++◌, map, refl, sym, ap, ◌∙◌, subst, append-nil, append_assoc}
 use Rattle.std.proofs.lemmas.List.{map-append}
 use Rattle.up_model.proofs.EveryKind.{lawful}
-use Rattle.up_model.specs.Kinds.{settled_work}
+use Rattle.up_model.specs.Kinds.{IsWithinBounds, settled_work}
 use Rattle.up_model.specs.Packet.{Flow}
 use Rattle.up_model.specs.declared.kind.Kind.{Kind}
 use Rattle.up_model.specs.declared.plain_packet.PlainPacket.{PlainPacket}
@@ -66,15 +66,15 @@ module _ {M P : Type 0} (plain : P → PlainPacket) (kind : M → Kind) (stands 
   }
 
   -- the next packet was fed in part, and those that were left weren't
-  pub fed_in_part : (now : M) (packet : P) (left : List P) (mid new : Outgoing P)
+  pub fed_in_part : IsWithinBounds (kind m) → (now : M) (packet : P) (left : List P) (mid new : Outgoing P)
       → IsFed plain kind stands m now whole (packet ∷ left) old mid
       → ((fed : Flow) → stands now fed → GrewInPart plain mid new (settled_work (kind now) fed) (settled_work (kind now) (fed ++ plain packet ∷ [])))
       → (fed : Flow) → stands m fed → GrewInPart plain old new (settled_work (kind m) fed) (settled_work (kind m) (fed ++ map plain whole))
-  fed_in_part now packet left mid new before in_part fed h =
+  fed_in_part within now packet left mid new before in_part fed h =
       let of_kind : Kind → Type 0 = λ k. GrewInPart plain mid new (settled_work k (fed ++ map plain before.packets)) (settled_work k ((fed ++ map plain before.packets) ++ plain packet ∷ [])) in
       let last = subst of_kind before.same (in_part _ (before.stood fed h)) in
       let part = GrewInPart-after plain old mid new _ _ _ (before.grew fed h) last in
-      let flows = (lawful (kind m)).flows in
+      let flows = (lawful (kind m)).flows within in
       let reached = (fed ++ map plain before.packets) ++ plain packet ∷ [] in
       let of_flow : Flow → Type 0 = λ flow. GrewInPart plain old new (settled_work (kind m) fed) (settled_work (kind m) flow) in
       subst of_flow (all_of_it plain fed whole before.packets left packet before.split)

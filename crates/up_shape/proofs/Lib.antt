@@ -4,4 +4,5 @@ pub mod Fed
 pub mod Growths
 pub mod PacketGrowths
 pub mod StoreSteps
+pub mod Trials
 pub mod WholeFlows

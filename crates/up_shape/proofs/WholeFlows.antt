@@ -2,7 +2,8 @@
 use Rattle.std.proofs.Common.{◌≡◌, [], subst, append-nil}
 use Rattle.up_base.specs.Lists.{IsPrefix}
 use Rattle.up_model.proofs.EveryKind.{lawful}
-use Rattle.up_model.specs.Kinds.{output_of, settled_output, settled_work, work_of}
+use Rattle.up_model.proofs.Lawful.{KeepsFlows}
+use Rattle.up_model.specs.Kinds.{IsWithinBounds, meaning_of, output_of, settled_output, settled_work, work_of}
 use Rattle.up_model.specs.Packet.{Flow}
 use Rattle.up_model.specs.Tallies.{IsAtMost}
 use Rattle.up_model.specs.Work.{Work, no_work}
@@ -12,15 +13,18 @@ use Rattle.up_shape.proofs.Growths.{Grew-trans, GrewInPart-after, GrewInPart-lon
 use Rattle.up_shape.specs.Growth.{Grew, GrewInPart}
 use Rattle.up_shape.specs.Outgoing.{Outgoing}
 
-module _ {P : Type 0} (plain : P → PlainPacket) (kind : Kind) (flow : Flow) where
+module _ {P : Type 0} (plain : P → PlainPacket) (kind : Kind) (within : IsWithinBounds kind) (flow : Flow) where
+  flows : KeepsFlows (meaning_of kind)
+  flows = (lawful kind).flows within
+
   nothing_yet : settled_work kind [] ≡ no_work
-  nothing_yet = λ i. record { flow = (lawful kind).flows.none i; tally = (lawful kind).flows.no_sums i }
+  nothing_yet = λ i. record { flow = flows.settles_nothing i; tally = flows.settles_no_sums i }
 
   settled_first : IsPrefix (settled_output kind flow) (output_of kind flow)
-  settled_first = subst (λ taken. IsPrefix (settled_output kind flow) (output_of kind taken)) (append-nil flow) ((lawful kind).flows.whole flow [])
+  settled_first = subst (λ taken. IsPrefix (settled_output kind flow) (output_of kind taken)) (append-nil flow) (flows.whole flow [])
 
   settled_at_most : IsAtMost (settled_work kind flow).tally (work_of kind flow).tally
-  settled_at_most = subst (λ taken. IsAtMost (settled_work kind flow).tally (work_of kind taken).tally) (append-nil flow) ((lawful kind).flows.sums_whole flow [])
+  settled_at_most = subst (λ taken. IsAtMost (settled_work kind flow).tally (work_of kind taken).tally) (append-nil flow) (flows.sums_whole flow [])
 
   -- it was fed, and ended
   pub ended : (a b c : Outgoing P) → Grew plain a b (settled_work kind []) (settled_work kind flow)

@@ -6,6 +6,7 @@ pub mod Outgoing
 pub mod Packetwise
 pub mod Passing
 pub mod Stores
+pub mod Trials
 pub mod VecPackets
 pub mod VecRooms
 pub mod VecStores

@@ -14,6 +14,7 @@ mod packet_step;
 mod packetwise;
 mod plain_copy;
 mod stash;
+mod trial;
 mod vec_bytes;
 mod vec_packet;
 mod vec_room;

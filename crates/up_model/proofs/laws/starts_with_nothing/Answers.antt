@@ -1,7 +1,12 @@
-use Rattle.std.proofs.Common.{◌≡◌}
 use Rattle.up_model.proofs.EveryKind.{lawful}
-use Rattle.up_model.specs.Work.{Work}
 use Rattle.up_model.proofs.laws.starts_with_nothing.Goals as goal
 
-pub returns : goal.returns
-returns c kind = λ i. record { flow = (lawful kind).flows.none i; tally = (lawful kind).flows.no_sums i }
+pub returns-clause-settled : goal.returns-clause-settled
+returns-clause-settled c kind within =
+    let flows = (lawful kind).flows within in
+    λ i. record { flow = flows.settles_nothing i; tally = flows.settles_no_sums i }
+
+pub returns-clause-whole : goal.returns-clause-whole
+returns-clause-whole c kind within =
+    let flows = (lawful kind).flows within in
+    λ i. record { flow = flows.owes_nothing i; tally = flows.owes_no_sums i }

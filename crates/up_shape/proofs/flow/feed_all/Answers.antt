@@ -38,4 +38,4 @@ give_up_all-requires g c =
 pub returns-in-Err-clause-in_part : goal.returns-in-Err-clause-in_part
 returns-in-Err-clause-in_part g c =
     let fed = rw c.in-Some.ensures at c.loop-p.invariant.0 in
-    fed_in_part _ _ _ _ _ _ _ _ _ _ _ fed c.in-Err.ensures.in_part
+    fed_in_part _ _ _ _ _ _ (g.met.M.Module.within c.args.m.now) _ _ _ _ _ fed c.in-Err.ensures.in_part

@@ -10,6 +10,6 @@ feed-requires-clause-legal g c = rw c.in-Ok.ensures.plain (plain_is_legal _ c.re
 
 pub returns-in-Err-clause-in_part : goal.returns-in-Err-clause-in_part
 returns-in-Err-clause-in_part g c fed stands =
-    let flows = (lawful (g.M.Module.kind c.args.m.now)).flows in
+    let flows = (lawful (g.M.Module.kind c.args.m.now)).flows (g.met.M.Module.within c.args.m.now) in
     let packet = plain c.args.bytes.now ∷ [] in
     puts_nothing _ _ _ _ _ refl refl (flows.longer fed packet) (flows.sums_longer fed packet)

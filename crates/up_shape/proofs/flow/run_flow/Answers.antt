@@ -12,7 +12,7 @@ returns-in-Ok-clause-grew g c =
     let flow = map plain c.args.flow in
     let of_kind : Kind → Type 0 = λ kind. Grew plain c.feed_all.new.out c.finish.new.out (settled_work kind flow) (work_of kind flow) in
     on_ok_weaker c.finish.result
-    (λ owed. ended plain _ flow _ _ _ (c.in-Ok.ensures.grew [] c.requires.fresh) (subst of_kind c.in-Ok.ensures.kind owed))
+    (λ owed. ended plain _ (g.met.M.Module.within c.args.m) flow _ _ _ (c.in-Ok.ensures.grew [] c.requires.fresh) (subst of_kind c.in-Ok.ensures.kind owed))
     (c.finish.ensures.grew flow (c.in-Ok.ensures.stands [] c.requires.fresh))
 
 pub returns-in-Ok-clause-in_part : goal.returns-in-Ok-clause-in_part
@@ -21,9 +21,9 @@ returns-in-Ok-clause-in_part g c =
     let flow = map plain c.args.flow in
     let of_kind : Kind → Type 0 = λ kind. GrewInPart plain c.feed_all.new.out c.finish.new.out (settled_work kind flow) (work_of kind flow) in
     on_err_weaker c.finish.result
-    (λ owed. ended_in_part plain _ flow _ _ _ (c.in-Ok.ensures.grew [] c.requires.fresh) (subst of_kind c.in-Ok.ensures.kind owed))
+    (λ owed. ended_in_part plain _ (g.met.M.Module.within c.args.m) flow _ _ _ (c.in-Ok.ensures.grew [] c.requires.fresh) (subst of_kind c.in-Ok.ensures.kind owed))
     (c.finish.ensures.in_part flow (c.in-Ok.ensures.stands [] c.requires.fresh))
 
 pub returns-in-Err-clause-in_part : goal.returns-in-Err-clause-in_part
 returns-in-Err-clause-in_part g c =
-    begun g.P.LocalPacket.plain _ (map g.P.LocalPacket.plain c.args.flow) _ _ (c.in-Err.ensures.in_part [] c.requires.fresh)
+    begun g.P.LocalPacket.plain _ (g.met.M.Module.within c.args.m) (map g.P.LocalPacket.plain c.args.flow) _ _ (c.in-Err.ensures.in_part [] c.requires.fresh)
