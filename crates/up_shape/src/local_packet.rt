@@ -65,7 +65,6 @@ pub trait LocalPacket: Sized {
         ensures back { IfErr result (λ refused. refused.back ≡ r) }
         ensures store { Stays Self.Store.family Self.Store.kept Self.Store.drawn s.old s.new };
 
-    /// Gives the room up.
     fn give_room(r: Self::Room, s: &mut Self::Store)
         requires family { room_fits r (Self.Store.family s.old) }
         ensures store { Stays Self.Store.family Self.Store.kept Self.Store.drawn s.old s.new };
@@ -79,7 +78,6 @@ pub trait LocalPacket: Sized {
             → Self.Store.drawn s.old < Self.Store.drawn s.new) }
         ensures store { Stays Self.Store.family Self.Store.kept Self.Store.drawn s.old s.new };
 
-    /// How many bytes it has.
     fn size(&self) -> u32
         ensures { result ≡ length (plain self.now).bytes };
 
@@ -101,7 +99,6 @@ pub trait LocalPacket: Sized {
             (map.get (plain self.now).attrs name.now ≡ None)
             (λ value. map.get (plain self.now).attrs name.now ≡ Some (lent value)) };
 
-    /// How many attributes it has.
     fn attr_count(&self) -> usize
         ensures { result ≡ map.len (plain self.now).attrs };
 
@@ -197,7 +194,6 @@ pub trait LocalPacket: Sized {
         ensures stays { fits self.new (Self.Store.family s.old) }
         ensures store { Stays Self.Store.family Self.Store.kept Self.Store.drawn s.old s.new };
 
-    /// Gives the packet up.
     fn give_up(self, s: &mut Self::Store)
         requires family { fits self (Self.Store.family s.old) }
         ensures store { Stays Self.Store.family Self.Store.kept Self.Store.drawn s.old s.new };

@@ -34,11 +34,9 @@ pub trait Stash: Sized {
         ensures kept { kept self.new ≤ kept self.old + kept other }
         ensures drawn { drawn self.new ≡ drawn self.old + drawn other };
 
-    /// How many carriers it keeps.
     fn kept(&self) -> usize
         ensures { result ≡ kept self.now };
 
-    /// The family.
     fn family(&self) -> Self::Family
         ensures { result ≡ family self.now };
 }

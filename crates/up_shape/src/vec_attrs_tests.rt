@@ -8,7 +8,6 @@ use std::test::Fail;
 use up_base::AttrName;
 use up_model::{MAX_ATTRS, MAX_VALUE, ValueView};
 
-/// Gives the attribute this value.
 fn set_attr<P: LocalPacket>(rt: &impl Abort, packet: &mut P, name: &str, value: ValueView<'_>)
     requires { IsLegalValue (lent value) }
 {
@@ -18,19 +17,16 @@ fn set_attr<P: LocalPacket>(rt: &impl Abort, packet: &mut P, name: &str, value: 
     packet.set_attr(&name, value).expect(rt, "no memory");
 }
 
-/// Gives the attribute this text.
 fn set_words<P: LocalPacket>(rt: &impl Abort, packet: &mut P, name: &str, text: &str) {
     assert!(rt; text.len() <= MAX_VALUE);
     set_attr(rt, packet, name, ValueView::Words(text));
 }
 
-/// Gives the attribute these bytes.
 fn set_opaque<P: LocalPacket>(rt: &impl Abort, packet: &mut P, name: &str, bytes: &[u8]) {
     assert!(rt; bytes.len() <= MAX_VALUE);
     set_attr(rt, packet, name, ValueView::Opaque(bytes));
 }
 
-/// Takes the attribute away.
 fn del_attr<P: LocalPacket>(rt: &impl Abort, packet: &mut P, name: &str) {
     let name = AttrName::read(name.as_bytes()).expect(rt, "no name");
     packet.del_attr(&name);

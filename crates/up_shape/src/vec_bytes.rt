@@ -32,7 +32,6 @@ impl VecBytes {
         VecBytes { held, start: 0 }
     }
 
-    /// A copy of these bytes.
     pub(crate) fn of_slice(alloc: Global, bytes: &[u8]) -> Result<VecBytes, NoMemory>
         ensures { IfOk result (λ made. made ≡ bytes.now) }
     {
@@ -44,7 +43,6 @@ impl VecBytes {
         *self.held.allocator()
     }
 
-    /// The bytes.
     pub(crate) fn as_slice(&self) -> &[u8]
         ensures { result.now ≡ self.now }
     {
@@ -68,7 +66,7 @@ impl VecBytes {
     }
 
     /// Adds these bytes at the end. Where no fewer bytes are dead than are left, those that are left move to the start
-    /// first: each move is paid for by as many bytes that were taken away.
+    /// first, so that each byte that moves is paid for by one that was taken away.
     pub(crate) fn append(&mut self, added: &[u8]) -> Result<(), NoMemory>
         ensures added { OnOk result (self.new ≡ self.old ++ added.now) }
         ensures unchanged { OnErr result (self.new ≡ self.old) }

@@ -1,4 +1,4 @@
-ghost use Rattle.std.specs.Prelude.{◌≡◌, ◌<◌, ◌^◌, length};
+ghost use Rattle.std.specs.Prelude.{◌≡◌, ◌<◌, ◌≤◌, ◌^◌, length, drop};
 
 use crate::byte_edits::copy_from;
 use crate::plain_copy::{copied, owned};
@@ -18,14 +18,12 @@ pub struct VecPacket {
 impl VecPacket {
     ghost use Rattle.up_shape.specs.VecPackets.{plain_of};
 
-    /// The attributes.
     pub fn attrs(&self) -> &PlainAttrs
         ensures { result.now ≡ (plain_of self.now).attrs }
     {
         &self.attrs
     }
 
-    /// The bytes.
     pub fn bytes(&self) -> &[u8]
         ensures { result.now ≡ (plain_of self.now).bytes }
     {
@@ -98,7 +96,11 @@ impl LocalPacket for VecPacket {
         copy_from(self.bytes(), at as usize, out);
     }
 
-    fn bytes_at(&self, at: u32) -> &[u8] {
+    /// All bytes from the place `at` on, since they lie together.
+    fn bytes_at(&self, at: u32) -> &[u8]
+        requires { at ≤ length (plain_of self.now).bytes }
+        ensures { result.now ≡ drop at (plain_of self.now).bytes }
+    {
         &self.bytes()[at as usize..]
     }
 

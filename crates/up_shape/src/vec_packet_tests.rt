@@ -25,7 +25,6 @@ fn assert_read<P: LocalPacket>(rt: &impl Abort, packet: &P, at: u32, wanted: &[u
     assert_eq!(rt; found, *wanted);
 }
 
-/// A room of so many bytes.
 pub(crate) fn room<P: LocalPacket>(rt: &impl Abort, size: u32, s: &mut P::Store) -> P::Room
     requires some { 0 < size }
     requires fits { size ≤ MAX_PACKET }
@@ -33,7 +32,6 @@ pub(crate) fn room<P: LocalPacket>(rt: &impl Abort, size: u32, s: &mut P::Store)
     P::room(size, s).expect(rt, "no memory")
 }
 
-/// A packet of these bytes.
 pub(crate) fn fresh<P: LocalPacket>(rt: &impl Abort, bytes: &[u8], s: &mut P::Store) -> P
     requires { length bytes.now ≤ MAX_PACKET }
 {
@@ -62,7 +60,6 @@ pub(crate) fn of_filled<P: LocalPacket>(
     }
 }
 
-/// A second packet of the same attributes and bytes.
 pub(crate) fn dup<P: LocalPacket>(rt: &impl Abort, packet: &mut P, s: &mut P::Store) -> P
     requires { P.fits packet.old (P.Store.family s.old) }
 {
@@ -82,7 +79,6 @@ pub(crate) fn front<P: LocalPacket>(
     packet.front(count, s).expect(rt, "no memory")
 }
 
-/// Adds the bytes of another.
 pub(crate) fn add<P: LocalPacket>(rt: &impl Abort, packet: &mut P, other: P, s: &mut P::Store)
     requires packet { P.fits packet.old (P.Store.family s.old) }
     requires other { P.fits other (P.Store.family s.old) }
@@ -131,7 +127,6 @@ fn a_packet_is_filled_doubled_cut_joined_and_written_over(rt: HostRuntime) {
     assert_bytes(&rt, &first, b"a");
 }
 
-/// Gives up the first bytes.
 pub(crate) fn drop_front<P: LocalPacket>(
     rt: &impl Abort,
     packet: &mut P,
@@ -144,7 +139,6 @@ pub(crate) fn drop_front<P: LocalPacket>(
     packet.drop_front(count, s);
 }
 
-/// Gives up all but the first bytes.
 pub(crate) fn keep_front<P: LocalPacket>(
     rt: &impl Abort,
     packet: &mut P,
@@ -162,7 +156,6 @@ fn parked<P: Packet>(packet: P) -> P {
     P::unpark(packet.park())
 }
 
-/// Gives a packet up.
 fn give_up<P: LocalPacket>(packet: P, s: &mut P::Store)
     requires { P.fits packet (P.Store.family s.old) }
 {

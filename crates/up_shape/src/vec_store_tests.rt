@@ -11,12 +11,10 @@ fn split_and_join<S: Stash>(store: &mut S)
     store.join(other);
 }
 
-/// How many carriers the store keeps.
 fn kept<S: Stash>(store: &S) -> usize {
     store.kept()
 }
 
-/// The family of the store.
 fn family<S: Stash>(store: &S) -> S::Family {
     store.family()
 }
