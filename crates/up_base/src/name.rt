@@ -56,6 +56,17 @@ impl<Of> Name<Of> {
         })
     }
 
+    /// The name that this text is. `read` tests whether a text is one.
+    pub fn of(text: &[u8]) -> Name<Of>
+        requires { is_name text.now ≡ true }
+        ensures { result ≡ text.now }
+    {
+        Name {
+            text: NameText::keep(text),
+            of: PhantomData,
+        }
+    }
+
     /// The text of the name.
     pub fn bytes(&self) -> &[u8]
         ensures bytes { result.now ≡ self.now }

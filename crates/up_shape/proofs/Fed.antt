@@ -79,11 +79,3 @@ module _ {M P : Type 0} (plain : P → PlainPacket) (kind : M → Kind) (stands 
       let of_flow : Flow → Type 0 = λ flow. GrewInPart plain old new (settled_work (kind m) fed) (settled_work (kind m) flow) in
       subst of_flow (all_of_it plain fed whole before.packets left packet before.split)
       (GrewInPart-longer plain old new _ _ _ part (flows.longer reached (map plain left)) (flows.sums_longer reached (map plain left)))
-
-  -- the whole flow was fed
-  pub fed_whole : (now : M) (new : Outgoing P) → IsFed plain kind stands m now whole [] old new
-      → (fed : Flow) → stands m fed → stands now (fed ++ map plain whole) × Grew plain old new (settled_work (kind m) fed) (settled_work (kind m) (fed ++ map plain whole))
-  fed_whole now new all fed h =
-      let is_all : all.packets ≡ whole = sym (append-nil all.packets) ∙ sym all.split in
-      let of_whole : List P → Type 0 = λ packets. stands now (fed ++ map plain packets) × Grew plain old new (settled_work (kind m) fed) (settled_work (kind m) (fed ++ map plain packets)) in
-      subst of_whole is_all (all.stood fed h, all.grew fed h)
