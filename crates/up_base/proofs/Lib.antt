@@ -1,3 +1,4 @@
+pub mod ListExamples
 pub mod NameExamples
 pub mod Names
 pub mod NumberBytes
@@ -5,3 +6,4 @@ pub mod NumberExamples
 pub mod Numbers
 pub mod Padding
 pub mod Texts
+pub mod TransportExamples

@@ -1,7 +1,7 @@
 -- Worked examples of numbers as bytes, computed.
 use Rattle.std.proofs.Common.{◌≡◌, ◌-◌, ◌^◌, [], ◌∷◌, refl}
 use Rattle.std.specs.Prelude.{replicate}
-use Rattle.up_base.specs.Number.{big_endian}
+use Rattle.up_base.specs.Number.{big_endian, big_endian_bytes}
 
 -- the first byte has the higher worth
 pub two_bytes : big_endian (1 ∷ 2 ∷ []) ≡ 258
@@ -22,3 +22,8 @@ greatest_of_eight_bytes = refl
 
 pub no_bytes : big_endian [] ≡ 0
 no_bytes = refl
+
+-- a number in two bytes, and in more bytes than it needs
+pub bytes_of_numbers :
+    (big_endian_bytes 2 258 ≡ 1 ∷ 2 ∷ []) × (big_endian_bytes 4 258 ≡ 0 ∷ 0 ∷ 1 ∷ 2 ∷ [])
+bytes_of_numbers = (refl, refl)

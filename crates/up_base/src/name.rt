@@ -55,6 +55,17 @@ impl<Of> Name<Of> {
         })
     }
 
+    /// `read` tests whether a text is a name.
+    pub fn of(text: &[u8]) -> Name<Of>
+        requires { is_name text.now ≡ true }
+        ensures { result ≡ text.now }
+    {
+        Name {
+            text: NameText::keep(text),
+            of: PhantomData,
+        }
+    }
+
     pub fn bytes(&self) -> &[u8]
         ensures bytes { result.now ≡ self.now }
         ensures name { is_name result.now ≡ true }

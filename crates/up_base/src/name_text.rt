@@ -71,7 +71,7 @@ impl NameText {
     }
 
     /// Keeps a text that is a name.
-    fn keep(text: &[u8]) -> NameText
+    pub(crate) fn keep(text: &[u8]) -> NameText
         requires { is_name text.now ≡ true }
         ensures { result ≡ text.now }
     {

@@ -1,3 +1,1 @@
-pub mod DupPipe
-pub mod Idem
-pub mod NullPipe
+pub mod PassOn

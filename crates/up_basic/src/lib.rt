@@ -1,13 +1,11 @@
 //! Kinds of pipe that take each packet as a whole.
 #![tactic(auto)]
 
-mod dup_pipe;
-mod idem;
 mod null_pipe;
+mod pass_on;
 
-pub use dup_pipe::DupPipe;
-pub use idem::Idem;
 pub use null_pipe::NullPipe;
+pub use pass_on::{DupPipe, Idem};
 
 #[cfg(test)]
 mod tests;

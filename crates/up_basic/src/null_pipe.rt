@@ -1,58 +1,46 @@
-ghost use Rattle.std.specs.Prelude.{[]};
+ghost use Rattle.std.specs.Prelude.{refl};
+ghost use Rattle.up_model.specs.Packetwise.{drops};
+ghost use Rattle.up_model.specs.declared.kind.Kind.TheVariants as kinds;
 
 use up_base::NoMemory;
-use up_model::Tally;
-use up_shape::{Command, ControlRefused, LocalPacket, Module, Outbox, Reply};
+use up_model::Passed;
+use up_shape::{
+    Command, ControlRefused, LocalPacket, Made, Options, PacketStep, Packetwise, Reply,
+};
 
 /// Takes all and puts nothing out.
-#[derive(Debug)]
-pub struct NullPipe {
-    fed: bool,
-}
+pub type NullPipe = Packetwise<NullStep>;
 
-impl NullPipe {
-    ghost use Rattle.up_basic.specs.NullPipe.{StandsFor};
+#[derive(Debug, Drop)]
+pub struct NullStep;
 
-    /// One that was fed nothing.
-    pub fn new() -> NullPipe
-        ensures { StandsFor result [] }
-    {
-        NullPipe { fed: false }
-    }
-}
-
-impl<P: LocalPacket> Module<P> for NullPipe {
-    ghost use Rattle.up_model.specs.declared.kind.Kind.TheVariants.{Null as NullKind};
-    ghost use Rattle.up_basic.specs.NullPipe.{StandsFor};
-
-    ghost kind = { λ _. NullKind };
-
-    ghost stands = { StandsFor };
-
-    ghost agrees = { λ _ _. Unit {0} };
-
-    fn feed(&mut self, p: P, out: &mut Outbox<P>, s: &mut P::Store) -> Result<(), NoMemory> {
-        self.fed = true;
-        let size = p.size();
-        p.give_up(s);
-        out.add_tally(Tally::of_dropped(u64::from(size)));
-        Ok(())
-    }
-
-    fn finish(self, _out: &mut Outbox<P>, _s: &mut P::Store) -> Result<(), NoMemory> {
-        let NullPipe { fed: _ } = self;
-        Ok(())
-    }
-
-    fn give_up(self, _s: &mut P::Store) {
-        let NullPipe { fed: _ } = self;
-    }
-
-    fn fresh(&self) -> bool {
-        !self.fed
-    }
+impl Options for NullStep {
+    ghost kind = { λ _. kinds.Null };
 
     fn control(&mut self, _c: Command) -> Result<Reply, ControlRefused> {
         Err(ControlRefused::Unhandled)
     }
+
+    ghost within = { λ _. tt };
+}
+
+impl Made<()> for NullStep {
+    ghost first = { λ _. kinds.Null };
+
+    fn made(_fields: ()) -> NullStep {
+        NullStep
+    }
+}
+
+impl<P: LocalPacket> PacketStep<P> for NullStep {
+    ghost step = { λ _. drops };
+
+    fn pass(&self, p: P, s: &mut P::Store) -> Result<Passed<P>, NoMemory> {
+        p.give_up(s);
+        Ok(Passed::Drops)
+    }
+
+    ghost settles = { λ _ _. refl };
+
+    ghost owes = { λ _ _. refl };
 }

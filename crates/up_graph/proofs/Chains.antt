@@ -6,7 +6,8 @@ use Rattle.std.proofs.lemmas.Bool.Decides.{nat_tests}
 use Rattle.toml.specs.Data.{Data, integer, table, Items, no_items, item, Members, get_member}
 use Rattle.up_graph.specs.Answers.{Checked, ◌>>=◌}
 use Rattle.up_graph.specs.Draft.{draft_with, draft_of_kind, draft_of_word, place_before, pipe_from}
-use Rattle.up_graph.specs.Field.{Field, field_map, both, is_within, number_at, number_in, path_at, text_at}
+use Rattle.up_base.specs.Name.{is_within}
+use Rattle.up_graph.specs.Field.{Field, field_map, both, number_at, number_in, path_at, text_at}
 use Rattle.up_graph.specs.KindFields.{kind_name_of, kind_of}
 use Rattle.up_graph.specs.Chain.{is_placed, linked}
 use Rattle.up_graph.specs.Pipes.{draft_in, pipe_of, is_empty, pipes_from}

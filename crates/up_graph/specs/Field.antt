@@ -1,13 +1,13 @@
 -- The fields of a table: each has a value, or is wrong and told by its name.
-use Rattle.std.specs.Prelude.{ℕ, pos, ◌==◌, Bool, ◌&&◌, not, List, [], ◌∷◌, length, nat_le, Option, Some, None, Result, Ok, Err, if◌then◌else◌}
+use Rattle.std.specs.Prelude.{ℕ, Bool, pos, List, [], ◌∷◌, Option, Some, None, Result, Ok, Err, if◌then◌else◌}
 use Rattle.std.specs.List.{list_any}
 use Rattle.std.specs.Str.{bytes_eq}
 use Rattle.std.specs.Borrow.{Bor}
 use Rattle.std.specs.Ordering.{nat_cmp, match_ordering}
 use Rattle.std.specs.Cmp.Lexicographic.{slice_cmp}
 use Rattle.toml.specs.Data.{Data, string, integer, Members, no_members, member, get_member}
-use Rattle.up_base.specs.Name.{is_name}
-use Rattle.up_model.specs.declared.limits.TheConstants.{MAX_PATH}
+use Rattle.up_base.specs.Name.{is_name, is_within}
+use Rattle.up_model.specs.Ends.{is_path}
 
 -- what a field gives, or the name of the wrong field
 abbrev pub Field : Type 0 → Type 0
@@ -52,12 +52,6 @@ text_in key _ = Err key
 abbrev pub text_at : List ℕ → Members → Field (List ℕ)
 text_at key table = text_in key (get_member key table)
 
--- a text of 1 to 4,096 bytes, none of them zero
-abbrev pub is_path : List ℕ → Bool
-is_path path =
-    nat_le 1 (length path)
-    && (nat_le (length path) MAX_PATH && not (list_any (λ byte. byte == 0) path))
-
 -- the string is a path
 abbrev pub path_in : List ℕ → Field (List ℕ) → Field (List ℕ)
 path_in key (Ok path) = if is_path path then Ok path else Err key
@@ -66,10 +60,6 @@ path_in key (Err _) = Err key
 -- the path at a key
 abbrev pub path_at : List ℕ → Members → Field (List ℕ)
 path_at key table = path_in key (text_at key table)
-
--- a number from low to high, both included
-abbrev pub is_within : ℕ → ℕ → ℕ → Bool
-is_within low high number = nat_le low number && nat_le number high
 
 -- a key that has nothing gives what stands for it, or is wrong
 abbrev pub or_wrong : {A : Type 0} → List ℕ → Option A → Field A

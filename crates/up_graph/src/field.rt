@@ -4,7 +4,8 @@ ghost use Rattle.std.specs.List.{list_any};
 ghost use Rattle.std.specs.Str.{bytes_eq};
 ghost use Rattle.toml.specs.Data.{get_member};
 ghost use Rattle.toml.specs.View.{table_view, view};
-ghost use Rattle.up_graph.specs.Field.{both, is_path, known_alone, lesser, name_at, number_at, path_at, seen, text_at};
+ghost use Rattle.up_model.specs.Ends.{is_path};
+ghost use Rattle.up_graph.specs.Field.{both, known_alone, lesser, name_at, number_at, path_at, seen, text_at};
 
 use toml::{Table, Value};
 use up_base::PipeName;

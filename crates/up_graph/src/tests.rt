@@ -38,9 +38,7 @@ fn kind_words(rt: &HostRuntime, kind: &Kind) -> Result<String, Fail> {
         Kind::Source { path, limit, .. } => format!(in alloc; "source {} {limit} ", path.as_str())?,
         Kind::Sink { path, .. } => format!(in alloc; "sink {} ", path.as_str())?,
         Kind::Idem => format!(in alloc; "idem ")?,
-        Kind::Null => format!(in alloc; "null ")?,
-        Kind::Dup => format!(in alloc; "dup ")?,
-        Kind::Skip { bytes } => format!(in alloc; "skip {bytes} ")?,
+        _ => format!(in alloc; "a kind that no chain has ")?,
     })
 }
 

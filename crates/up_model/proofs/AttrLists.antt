@@ -96,7 +96,7 @@ get-missing list name at order cut =
     get-from_sorted by_name list name order ∙ find-missing nat_list_cmp_total name list (apart nat_list_cmp_total name list at cut)
 
 -- the list without the attributes of a name stands for the map without the name
-without : (list new : List Attr) (name : List ℕ) → HasOrder list → new ≡ where_key by_name (λ x. not (eq_by_cmp by_name name x)) list
+pub without : (list new : List Attr) (name : List ℕ) → HasOrder list → new ≡ where_key by_name (λ x. not (eq_by_cmp by_name name x)) list
     → StandsFor new (map.remove (attrs_of list) name)
 without list new name order is =
     let kept = λ (x : List ℕ). not (eq_by_cmp by_name name x) in

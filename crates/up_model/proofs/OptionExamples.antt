@@ -1,12 +1,13 @@
 -- Worked examples of options, computed.
-use Rattle.std.proofs.Common.{◌≡◌, pos, Some, None, refl}
-use Rattle.up_model.specs.Options.{setting_of, with_option}
+use Rattle.std.proofs.Common.{◌≡◌, pos, Some, None, refl, arith}
+use Rattle.std.specs.Int.RustNames.{unsigned_abs}
+use Rattle.up_model.specs.Kinds.{IsWithinBounds, setting_of, with_option}
 use Rattle.up_model.specs.declared.kind.Kind.TheVariants.{Idem, Null, Dup, Skip}
 use Rattle.up_model.specs.declared.opt.Opt.{Opt}
 use Rattle.up_model.specs.declared.opt.Opt.TheVariants.{Mtu, Align, Offset, Low, High, By, Sync}
 
 -- `skip` has an offset, from 0 to the bytes of the greatest packet
-pub offset_of_skip : setting_of (Skip 188) Offset ≡ Some (record { value = pos 188; low = pos 0; high = pos 1048576 })
+pub offset_of_skip : setting_of (Skip 188) Offset ≡ Some (record { value = pos 188; low = pos 0; high = pos 1048576; set = λ value. Skip (unsigned_abs value) })
 offset_of_skip = refl
 
 -- and no other option
@@ -25,3 +26,7 @@ set_offset = refl
 -- one that the kind hasn't changes nothing
 pub set_other : (with_option (Skip 188) Mtu (pos 4) ≡ Skip 188) × (with_option Idem Offset (pos 4) ≡ Idem)
 set_other = (refl, refl)
+
+-- the greatest offset is within the bounds, the next is not
+pub greatest_offset : IsWithinBounds (Skip 1048576) × (IsWithinBounds (Skip 1048577) → ⊥)
+greatest_offset = (omega arith, λ within. omega (arith, within))

@@ -1,6 +1,8 @@
 -- Worked examples of sums, computed.
-use Rattle.std.proofs.Common.{◌≡◌, ◌-◌, ◌^◌, refl}
-use Rattle.up_model.specs.Tallies.{plus, added, more, nothing, of_passed, of_dropped}
+use Rattle.std.proofs.Common.{◌≡◌, ◌-◌, ◌^◌, [], ◌∷◌, map, refl}
+use Rattle.std.specs.Prelude.{codes}
+use Rattle.up_model.specs.Packet.{plain}
+use Rattle.up_model.specs.Tallies.{plus, added, more, stopped, nothing, of_passed, of_dropped, of_source, of_sink}
 
 -- one packet less 3 bytes, and one of 2 bytes that was dropped
 pub one_of_each : plus (of_passed 3) (of_dropped 2) ≡ record { taken = 2; put = 1; dropped = 1; cut = 5; gained = 0; lost = 0 }
@@ -17,3 +19,12 @@ full_sum = refl
 -- nothing more leaves all as it is
 pub no_more : added (of_passed 3) nothing ≡ of_passed 3
 no_more = refl
+
+-- sums that are kept since the start are the sums, but for one that passes 2^64 - 1
+pub since_the_start : stopped (of_passed (2 ^ 64)) ≡ of_passed (2 ^ 64 - 1)
+since_the_start = refl
+
+-- a source puts out what it took of nobody, and a sink puts nothing out
+pub ends : (of_source (map plain (codes "ab" ∷ [] ∷ [])) ≡ record { taken = 0; put = 2; dropped = 0; cut = 0; gained = 0; lost = 0 })
+    × (of_sink (map plain (codes "ab" ∷ [] ∷ [])) ≡ record { taken = 2; put = 0; dropped = 0; cut = 0; gained = 0; lost = 0 })
+ends = (refl, refl)

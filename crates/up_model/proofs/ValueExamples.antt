@@ -1,23 +1,28 @@
 -- Worked examples of values and of their sizes, computed.
-use Rattle.std.proofs.Common.{◌≡◌, ◌-◌, ◌^◌, List, ℕ, [], ◌∷◌, true, refl}
+use Rattle.std.proofs.Common.{◌≡◌, ◌-◌, ◌^◌, List, ℕ, [], ◌∷◌, true, refl, arith}
 use Rattle.std.specs.Prelude.{codes}
 use Rattle.std.proofs.Common.{Bor}
-use Rattle.up_model.specs.Value.{seen, value_size}
+use Rattle.std.specs.Str.{is_utf8, chars}
+use Rattle.up_model.specs.Value.{lent, IsLegalValue}
 use Rattle.up_model.specs.declared.value.Value.TheVariants.{Void, Flag, Unsigned, Words, Opaque}
 use Rattle.up_model.specs.declared.value.ValueView.TheVariants as views
 
--- a value that is lent is seen as itself
-pub lent : (seen views.Void ≡ Void) × (seen (views.Flag true) ≡ Flag true) × (seen (views.Unsigned (2 ^ 64 - 1)) ≡ Unsigned (2 ^ 64 - 1))
-lent = (refl, refl, refl)
+-- a value that is lent is itself
+pub plain_values : (lent views.Void ≡ Void) × (lent (views.Flag true) ≡ Flag true) × (lent (views.Unsigned (2 ^ 64 - 1)) ≡ Unsigned (2 ^ 64 - 1))
+plain_values = (refl, refl, refl)
 
--- a text and bytes that are lent are seen as what they are
-pub lent_bytes : (bytes : Bor (List ℕ)) → (seen (views.Words bytes) ≡ Words bytes.now) × (seen (views.Opaque bytes) ≡ Opaque bytes.now)
-lent_bytes bytes = (refl, refl)
+-- a text and bytes that are lent are what they are
+pub values_of_bytes : (bytes : Bor (List ℕ)) → (lent (views.Words bytes) ≡ Words bytes.now) × (lent (views.Opaque bytes) ≡ Opaque bytes.now)
+values_of_bytes bytes = (refl, refl)
 
--- the size of a text or opaque value is that of its bytes
-pub sizes_of_bytes : (value_size (Words (codes "title")) ≡ 5) × (value_size (Opaque (0 ∷ 255 ∷ [])) ≡ 2) × (value_size (Words []) ≡ 0)
-sizes_of_bytes = (refl, refl, refl)
+-- the greatest number is legal, and the next is no value
+pub greatest_number : IsLegalValue (Unsigned (2 ^ 64 - 1)) × (IsLegalValue (Unsigned (2 ^ 64)) → ⊥)
+greatest_number = (omega arith, λ below. omega (arith, below))
 
--- any other value has none
-pub other_sizes : (value_size Void ≡ 0) × (value_size (Flag true) ≡ 0) × (value_size (Unsigned (2 ^ 64 - 1)) ≡ 0)
-other_sizes = (refl, refl, refl)
+title_is_utf8 : is_utf8 (codes "title") ≡ true
+unfolding chars is_utf8 lib.Utf8.encode
+title_is_utf8 = refl
+
+-- a text is UTF-8; bytes are any
+pub texts_are_utf8 : IsLegalValue (Words (codes "title")) × IsLegalValue (Opaque (0 ∷ 255 ∷ []))
+texts_are_utf8 = ((title_is_utf8, omega arith), omega arith)

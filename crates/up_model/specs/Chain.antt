@@ -4,13 +4,15 @@ use Rattle.up_model.specs.declared.form.SinkForm.TheVariants as sink_forms
 use Rattle.up_model.specs.declared.form.SourceForm.TheVariants as source_forms
 use Rattle.up_model.specs.declared.kind.Kind.{Kind}
 use Rattle.up_model.specs.declared.kind.Kind.TheVariants.{Source, Sink, Idem}
+use Rattle.up_model.specs.declared.limits.TheConstants.{MAX_LIMIT}
 use Rattle.up_model.specs.declared.pipe.Pipe.{Pipe}
 
--- it reads blocks of at least one byte, up to a limit of at most 2^40 bytes
+-- it reads blocks of at least one byte, up to a limit of at most 2^40 bytes; a pipe of any other kind is no source
 abbrev pub IsRawSource : Kind → Type 0
-IsRawSource (Source path (source_forms.Raw block) limit) = (0 < block) × (limit ≤ 1099511627776)
+IsRawSource (Source path (source_forms.Raw block) limit) = (0 < block) × (limit ≤ MAX_LIMIT)
 IsRawSource kind = ⊥
 
+-- a pipe of any other kind is no sink
 abbrev pub IsRawSink : Kind → Type 0
 IsRawSink (Sink path sink_forms.Raw) = Unit {0}
 IsRawSink kind = ⊥

@@ -1,50 +1,64 @@
--- What each kind of pipe does with a whole flow: what it puts out, what of that is settled before the end, and what it
--- counts.
-use Rattle.std.specs.Prelude.{◌≡◌, [], ◌++◌}
-use Rattle.up_model.specs.Null.{null_tally}
+-- What each kind of pipe does with a whole flow. The one match on kinds is `meaning_of`.
+use Rattle.std.specs.Prelude.{ℕ, ℤ, List, Option, Some, None, unwrap_or}
+use Rattle.up_model.specs.Ends.{source_meaning, sink_meaning}
+use Rattle.up_model.specs.KindMeaning.{KindMeaning, Setting, no_options}
 use Rattle.up_model.specs.Packet.{Flow}
-use Rattle.up_model.specs.Skip.{skipped, skip_tally}
-use Rattle.up_model.specs.Tallies.{counted}
+use Rattle.up_model.specs.Packetwise.{packetwise, passes_on, drops}
+use Rattle.up_model.specs.Skip.{skip_meaning}
+use Rattle.up_model.specs.Work.{Work}
 use Rattle.up_model.specs.declared.kind.Kind.{Kind}
 use Rattle.up_model.specs.declared.kind.Kind.TheVariants.{Source, Sink, Idem, Null, Dup, Skip}
-use Rattle.up_model.specs.declared.tally.Tally.{Tally}
+use Rattle.up_model.specs.declared.opt.Opt.{Opt}
 
--- the function of a kind: what it puts out for what it takes; a sink has no output
+abbrev pub meaning_of : Kind → KindMeaning
+meaning_of (Source path form limit) = source_meaning path form limit
+meaning_of (Sink path form) = sink_meaning path form
+meaning_of Idem = packetwise (Unit {0}) passes_on no_options
+meaning_of Null = packetwise (Unit {0}) drops no_options
+meaning_of Dup = packetwise (Unit {0}) passes_on no_options
+meaning_of (Skip bytes) = skip_meaning bytes
+
+-- its fields are within their bounds
+abbrev pub IsWithinBounds : Kind → Type 0
+IsWithinBounds kind = (meaning_of kind).IsWithin
+
+-- the function of a kind: what it puts out for what it takes
 abbrev pub output_of : Kind → Flow → Flow
-output_of (Source path form limit) taken = []
-output_of (Sink path form) taken = []
-output_of Idem taken = taken
-output_of Null taken = []
-output_of Dup taken = taken
-output_of (Skip bytes) taken = skipped bytes taken
+output_of kind taken = (meaning_of kind).output taken
 
--- what it has put out when it has taken this and the flow goes on; a kind that holds nothing back has put out all
+-- what it has put out when it has taken this and the flow goes on
 abbrev pub settled_output : Kind → Flow → Flow
-settled_output kind taken = output_of kind taken
-
--- its sums where it took the one flow and put out the other
-abbrev pub tally_of : Kind → Flow → Flow → Tally
-tally_of Null taken put = null_tally taken
-tally_of (Skip bytes) taken put = skip_tally taken put
-tally_of kind taken put = counted taken put 0 0
-
--- its sums when it has taken this and the flow goes on
-abbrev pub settled_tally : Kind → Flow → Tally
-settled_tally kind taken = tally_of kind taken (settled_output kind taken)
-
--- what a pipe has put out and counted
-pub record Work : Type 0 where
-  pub flow : Flow
-  pub tally : Tally
+settled_output kind taken = (meaning_of kind).settled taken
 
 -- the whole work on a flow
 abbrev pub work_of : Kind → Flow → Work
-work_of kind taken = record { flow = output_of kind taken; tally = tally_of kind taken (output_of kind taken) }
+work_of kind taken = record { flow = output_of kind taken; tally = (meaning_of kind).tally taken }
 
 -- the work that is done when the flow goes on
 abbrev pub settled_work : Kind → Flow → Work
-settled_work kind taken = record { flow = settled_output kind taken; tally = settled_tally kind taken }
+settled_work kind taken =
+    record { flow = settled_output kind taken; tally = (meaning_of kind).settled_tally taken }
 
--- the one flow begins with the other
-abbrev pub IsPrefix : Flow → Flow → Type 0
-IsPrefix front whole = (rest : Flow) × (whole ≡ front ++ rest)
+-- the option of a kind, where the kind has it
+abbrev pub setting_of : Kind → Opt → Option Setting
+setting_of kind option = (meaning_of kind).setting option
+
+abbrev pub set_by : Kind → ℤ → Option Setting → Kind
+set_by kind value None = kind
+set_by kind value (Some setting) = setting.set value
+
+-- the kind with the option set to a value within its bounds
+abbrev pub with_option : Kind → Opt → ℤ → Kind
+with_option kind option value = set_by kind value (setting_of kind option)
+
+-- what of its output a consumer with this `select` takes
+abbrev pub share_of : Kind → Option ℕ → Flow → Flow
+share_of kind select flow = (meaning_of kind).share select flow
+
+-- the bytes that a pipe of the kind writes of what it takes: none but a sink's
+abbrev pub written_of : Kind → Flow → List ℕ
+written_of kind taken = (meaning_of kind).written taken
+
+-- the kind that its module has, by the numbers that its consumers select
+abbrev pub module_kind : List ℕ → Kind → Kind
+module_kind numbers kind = unwrap_or ((meaning_of kind).stand_in numbers) kind

@@ -3,7 +3,8 @@ use Rattle.std.specs.Prelude.{◌≡◌, ℕ, ◌≤◌, true, List, length, map
 use Rattle.std.specs.List.{concat}
 use Rattle.std.specs.FinMap.{empty, keys, values as values_of, len}
 use Rattle.up_base.specs.Name.{is_name}
-use Rattle.up_model.specs.Value.{value_size}
+use Rattle.up_model.specs.Value.{IsLegalValue}
+use Rattle.up_model.specs.declared.limits.TheConstants.{MAX_ATTRS, MAX_PACKET}
 pub use Rattle.up_model.specs.Attrs.{Attrs}
 pub use Rattle.up_model.specs.declared.plain_packet.PlainPacket.{PlainPacket}
 
@@ -15,12 +16,12 @@ Flow = List PlainPacket
 abbrev pub plain : List ℕ → PlainPacket
 plain bytes = record { attrs = empty; bytes = bytes }
 
--- at most 64 attributes, their names are names, their values at most 4,096 bytes, and at most 1,048,576 bytes
+-- at most 64 attributes, their names are names and their values legal, and at most 1,048,576 bytes
 pub record IsLegal (packet : PlainPacket) : Type 0 where
-  pub few : len packet.attrs ≤ 64
+  pub few : len packet.attrs ≤ MAX_ATTRS
   pub names : All (λ name. is_name name ≡ true) (keys packet.attrs)
-  pub values : All (λ value. value_size value ≤ 4096) (values_of packet.attrs)
-  pub size : length packet.bytes ≤ 1048576
+  pub values : All IsLegalValue (values_of packet.attrs)
+  pub size : length packet.bytes ≤ MAX_PACKET
 
 -- the bytes of the packets, one after the other
 abbrev pub joined : Flow → List ℕ

@@ -1,19 +1,32 @@
 -- The kind `skip`: takes the first bytes off each packet, and drops a packet that has fewer.
-use Rattle.std.specs.Prelude.{ℕ, ◌-◌, nat_le, [], ◌∷◌, length, drop, if◌then◌else◌}
-use Rattle.std.specs.List.{flat_map}
-use Rattle.up_model.specs.Packet.{PlainPacket, Flow, joined}
-use Rattle.up_model.specs.Tallies.{counted}
-use Rattle.up_model.specs.declared.tally.Tally.{Tally}
+use Rattle.std.specs.Prelude.{ℕ, ◌≤◌, pos, nat_le, length, drop, if◌then◌else◌, Option, Some, None}
+use Rattle.std.specs.Int.RustNames.{unsigned_abs}
+use Rattle.up_model.specs.KindMeaning.{KindMeaning, Setting}
+use Rattle.up_model.specs.Packetwise.{Step, packetwise}
+use Rattle.up_model.specs.declared.kind.Kind.TheVariants.{Skip}
+use Rattle.up_model.specs.declared.limits.TheConstants.{MAX_PACKET}
+use Rattle.up_model.specs.declared.opt.Opt.{Opt}
+use Rattle.up_model.specs.declared.opt.Opt.TheVariants.{Mtu, Align, Offset, Low, High, By, Sync}
+use Rattle.up_model.specs.declared.passed.Passed.TheVariants.{Passes, Drops}
 
--- one packet without its first `count` bytes, and none where it has fewer
-abbrev pub skip_packet : ℕ → PlainPacket → Flow
-skip_packet count packet =
-    if nat_le count (length packet.bytes) then record packet { bytes = drop count packet.bytes } ∷ [] else []
+abbrev pub skip_step : ℕ → Step
+skip_step count packet =
+    if nat_le count (length packet.bytes)
+    then Passes (record packet { bytes = drop count packet.bytes }) count else Drops
 
--- each packet by itself
-abbrev pub skipped : ℕ → Flow → Flow
-skipped count taken = flat_map (skip_packet count) taken
+abbrev pub skip_setting : ℕ → Opt → Option Setting
+skip_setting count Offset = Some (record {
+  value = pos count;
+  low = pos 0;
+  high = pos MAX_PACKET;
+  set = λ value. Skip (unsigned_abs value);
+})
+skip_setting count Mtu = None
+skip_setting count Align = None
+skip_setting count Low = None
+skip_setting count High = None
+skip_setting count By = None
+skip_setting count Sync = None
 
--- the packets that aren't put out were dropped, and the bytes that aren't put out were cut
-abbrev pub skip_tally : Flow → Flow → Tally
-skip_tally taken put = counted taken put (length taken - length put) (length (joined taken) - length (joined put))
+abbrev pub skip_meaning : ℕ → KindMeaning
+skip_meaning count = packetwise (count ≤ MAX_PACKET) (skip_step count) (skip_setting count)

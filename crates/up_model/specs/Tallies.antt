@@ -1,5 +1,5 @@
 -- Sums of what a pipe did. Here they have no bound; where they are kept, each stops at 2^64 - 1.
-use Rattle.std.specs.Prelude.{ℕ, ◌+◌, ◌-◌, ◌^◌, min, max, length}
+use Rattle.std.specs.Prelude.{ℕ, ◌+◌, ◌-◌, ◌^◌, ◌≤◌, min, max, length}
 use Rattle.up_model.specs.Packet.{Flow}
 use Rattle.up_model.specs.declared.tally.Tally.{Tally}
 
@@ -18,9 +18,22 @@ plus a b = record {
   lost = a.lost + b.lost;
 }
 
--- a sum that is kept, and more; it stops at 2^64 - 1
+-- each sum of the one is at most that of the other
+pub record IsAtMost (a b : Tally) : Type 0 where
+  pub taken : a.taken ≤ b.taken
+  pub put : a.put ≤ b.put
+  pub dropped : a.dropped ≤ b.dropped
+  pub cut : a.cut ≤ b.cut
+  pub gained : a.gained ≤ b.gained
+  pub lost : a.lost ≤ b.lost
+
+-- where a sum that is kept stops
+abbrev pub greatest_sum : ℕ
+greatest_sum = 2 ^ 64 - 1
+
+-- a sum that is kept, and more; it stops
 abbrev pub more : ℕ → ℕ → ℕ
-more sum count = max sum (min (sum + count) (2 ^ 64 - 1))
+more sum count = max sum (min (sum + count) greatest_sum)
 
 -- six sums that are kept, and more
 abbrev pub added : Tally → Tally → Tally
@@ -33,15 +46,15 @@ added a b = record {
   lost = more a.lost b.lost;
 }
 
--- these packets were taken and these put out, so many were dropped, and so many bytes cut
-abbrev pub counted : Flow → Flow → ℕ → ℕ → Tally
-counted taken put dropped cut = record {
-  taken = length taken;
-  put = length put;
-  dropped = dropped;
-  cut = cut;
-  gained = 0;
-  lost = 0;
+-- six sums, kept since the start
+abbrev pub stopped : Tally → Tally
+stopped sums = record {
+  taken = min sums.taken greatest_sum;
+  put = min sums.put greatest_sum;
+  dropped = min sums.dropped greatest_sum;
+  cut = min sums.cut greatest_sum;
+  gained = min sums.gained greatest_sum;
+  lost = min sums.lost greatest_sum;
 }
 
 -- one packet was taken and put out, less so many bytes
@@ -51,3 +64,11 @@ of_passed bytes = record { taken = 1; put = 1; dropped = 0; cut = bytes; gained 
 -- one packet of so many bytes was taken and dropped
 abbrev pub of_dropped : ℕ → Tally
 of_dropped bytes = record { taken = 1; put = 0; dropped = 1; cut = bytes; gained = 0; lost = 0 }
+
+-- a source put these packets out
+abbrev pub of_source : Flow → Tally
+of_source put = record { taken = 0; put = length put; dropped = 0; cut = 0; gained = 0; lost = 0 }
+
+-- these packets were taken, as by a sink
+abbrev pub of_sink : Flow → Tally
+of_sink taken = record { taken = length taken; put = 0; dropped = 0; cut = 0; gained = 0; lost = 0 }

@@ -1,22 +1,24 @@
 -- Values of attributes.
-use Rattle.std.specs.Prelude.{ℕ, length}
+use Rattle.std.specs.Prelude.{◌≡◌, ℕ, ◌<◌, ◌≤◌, ◌^◌, true, length}
+use Rattle.std.specs.Str.{is_utf8}
+use Rattle.up_model.specs.declared.limits.TheConstants.{MAX_VALUE}
 use Rattle.up_model.specs.declared.value.Value.{Value}
 use Rattle.up_model.specs.declared.value.Value.TheVariants.{Void, Flag, Unsigned, Words, Opaque}
 use Rattle.up_model.specs.declared.value.ValueView.{ValueView}
 use Rattle.up_model.specs.declared.value.ValueView.TheVariants as views
 
 -- the value that is lent
-abbrev pub seen : ValueView → Value
-seen views.Void = Void
-seen (views.Flag flag) = Flag flag
-seen (views.Unsigned number) = Unsigned number
-seen (views.Words text) = Words text.now
-seen (views.Opaque bytes) = Opaque bytes.now
+abbrev pub lent : ValueView → Value
+lent views.Void = Void
+lent (views.Flag flag) = Flag flag
+lent (views.Unsigned number) = Unsigned number
+lent (views.Words text) = Words text.now
+lent (views.Opaque bytes) = Opaque bytes.now
 
--- the bytes of a text or opaque value
-abbrev pub value_size : Value → ℕ
-value_size Void = 0
-value_size (Flag flag) = 0
-value_size (Unsigned number) = 0
-value_size (Words text) = length text
-value_size (Opaque bytes) = length bytes
+-- a number of 64 bits, a text in UTF-8, and text and bytes of at most 4,096 bytes
+abbrev pub IsLegalValue : Value → Type 0
+IsLegalValue Void = Unit {0}
+IsLegalValue (Flag flag) = Unit {0}
+IsLegalValue (Unsigned number) = number < 2 ^ 64
+IsLegalValue (Words text) = (is_utf8 text ≡ true) × (length text ≤ MAX_VALUE)
+IsLegalValue (Opaque bytes) = length bytes ≤ MAX_VALUE

@@ -125,3 +125,29 @@ fn each_place_has_its_name_and_its_value(rt: HostRuntime) -> Result<(), Fail> {
     assert_seen(&rt, second, ValueView::Unsigned(0));
     Ok(())
 }
+
+/// The name at a place of 64, in their order.
+fn pair(place: u8) -> Result<AttrName, Fail> {
+    Ok(AttrName::read(&[b'A' + place / 8, b'a' + place % 8])?)
+}
+
+#[test]
+fn sixty_four_names_have_their_values(rt: HostRuntime) -> Result<(), Fail> {
+    let mut attrs = PlainAttrs::new(rt.alloc());
+    for place in (0..64u8).rev() {
+        assert!(rt; !attrs.set(pair(place)?, Value::Unsigned(u64::from(place)))?);
+    }
+    assert_eq!(rt; attrs.len(), 64);
+    for place in 0..64u8 {
+        let wanted = pair(place)?;
+        assert!(rt; usize::from(place) < attrs.len());
+        let (name, _) = attrs.at(usize::from(place));
+        assert_eq!(rt; name.bytes(), wanted.bytes());
+        assert_number(&rt, &attrs, &wanted, u64::from(place));
+    }
+    for place in 0..64u8 {
+        assert!(rt; attrs.remove(&pair(place)?));
+        assert_eq!(rt; attrs.len(), 63 - usize::from(place));
+    }
+    Ok(())
+}

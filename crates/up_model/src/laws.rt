@@ -1,12 +1,20 @@
 // Laws of the definitions. A law is the contract of a function that does nothing.
-ghost use Rattle.std.specs.Prelude.{◌≡◌, ◌<◌, ◌+◌, ◌++◌, ℕ, List, All, length, slice_get, Some};
+ghost use Rattle.std.specs.Prelude.{◌≡◌, ◌<◌, ◌+◌, ◌++◌, [], ℕ, ◌≤◌, ℤ, true, Option, List, All, length, slice_get, Some};
+ghost use Rattle.up_base.specs.Lists.{IsPrefix};
 ghost use Rattle.up_model.specs.Chain.{IsChain};
 ghost use Rattle.up_model.specs.Cutting.{blocks};
-ghost use Rattle.up_model.specs.Kinds.{output_of, settled_output, IsPrefix};
+ghost use Rattle.up_model.specs.KindMeaning.{Setting, admits};
+ghost use Rattle.up_model.specs.Kinds.{IsWithinBounds, output_of, settled_output, settled_work, work_of, setting_of, with_option, share_of, module_kind};
 ghost use Rattle.up_model.specs.Meaning.{sink_bytes};
+ghost use Rattle.up_model.specs.OptionValues.{IsSet};
+ghost use Rattle.up_model.specs.Outcomes.{carried_flow};
 ghost use Rattle.up_model.specs.Packet.{Flow, IsLegal, joined};
-ghost use Rattle.up_model.specs.Tallies.{plus, added};
+ghost use Rattle.up_model.specs.Tallies.{IsAtMost, nothing, plus, added, stopped};
+ghost use Rattle.up_model.specs.Work.{no_work, Counts, CutsTheRest};
 ghost use Rattle.up_model.specs.declared.kind.Kind.{Kind as TheKind};
+ghost use Rattle.up_model.specs.declared.kind.Kind.TheVariants as kinds;
+ghost use Rattle.up_model.specs.declared.limits.TheConstants.{MAX_PID};
+ghost use Rattle.up_model.specs.declared.opt.Opt.{Opt as TheOpt};
 ghost use Rattle.up_model.specs.declared.pipe.Pipe.{Pipe as ThePipe};
 ghost use Rattle.up_model.specs.declared.tally.Tally.{Tally as TheTally};
 
@@ -22,21 +30,82 @@ pub fn chain_copies()
         → sink_bytes pipes given sink ≡ joined (given 0) }
 {}
 
+/// A kind that took nothing has put out nothing and counted nothing, also at the end.
+pub fn starts_with_nothing()
+    ensures settled { (kind : TheKind) → IsWithinBounds kind → settled_work kind [] ≡ no_work }
+    ensures whole { (kind : TheKind) → IsWithinBounds kind → work_of kind [] ≡ no_work }
+{}
+
 /// What a kind has put out when its flow goes on is a prefix of what it has put out later, and of what it puts out in
 /// all.
 pub fn settled_is_prefix()
-    ensures longer { (kind : TheKind) (taken more : Flow)
+    ensures longer { (kind : TheKind) (taken more : Flow) → IsWithinBounds kind
         → IsPrefix (settled_output kind taken) (settled_output kind (taken ++ more)) }
-    ensures whole { (kind : TheKind) (taken more : Flow)
+    ensures whole { (kind : TheKind) (taken more : Flow) → IsWithinBounds kind
         → IsPrefix (settled_output kind taken) (output_of kind (taken ++ more)) }
 {}
 
-/// A kind makes legal packets of legal ones.
+/// Each sum of a kind when its flow goes on is at most that sum later, and that in all.
+pub fn settled_sums_grow()
+    ensures longer { (kind : TheKind) (taken more : Flow) → IsWithinBounds kind
+        → IsAtMost (settled_work kind taken).tally (settled_work kind (taken ++ more)).tally }
+    ensures whole { (kind : TheKind) (taken more : Flow) → IsWithinBounds kind
+        → IsAtMost (settled_work kind taken).tally (work_of kind (taken ++ more)).tally }
+{}
+
+/// The sums of a kind count the packets that it took and those that it put out.
+pub fn sums_count_packets()
+    ensures settled { (kind : TheKind) (taken : Flow) → IsWithinBounds kind
+        → Counts (settled_work kind taken) taken }
+    ensures whole { (kind : TheKind) (taken : Flow) → IsWithinBounds kind
+        → Counts (work_of kind taken) taken }
+{}
+
+/// What `null` and `skip` cut and what they put out are the bytes that they took.
+pub fn cut_is_the_rest()
+    ensures null { (taken : Flow) → CutsTheRest (work_of kinds.Null taken) taken }
+    ensures skip { (bytes : ℕ) (taken : Flow) → CutsTheRest (work_of (kinds.Skip bytes) taken) taken }
+{}
+
+/// A kind within its bounds makes legal packets of legal ones.
 pub fn outputs_are_legal()
-    ensures { (kind : TheKind) (taken : Flow) → All IsLegal taken → All IsLegal (output_of kind taken) }
+    ensures { (kind : TheKind) (taken : Flow) → IsWithinBounds kind → All IsLegal taken
+        → All IsLegal (output_of kind taken) }
+{}
+
+/// What a consumer takes grows with the output that it takes of, and is legal where that is; a kind that a module has in
+/// place of its own is within its bounds.
+pub fn shares_are_lawful()
+    ensures longer { (kind : TheKind) (select : Option ℕ) (front more : Flow)
+        → IsPrefix (share_of kind select front) (share_of kind select (front ++ more)) }
+    ensures legal { (kind : TheKind) (select : Option ℕ) (flow : Flow) → All IsLegal flow
+        → All IsLegal (share_of kind select flow) }
+    ensures within { (kind : TheKind) (numbers : List ℕ) → IsWithinBounds kind
+        → All (λ number. number ≤ MAX_PID) numbers → IsWithinBounds (module_kind numbers kind) }
+{}
+
+/// What a source within its bounds carries is legal packets.
+pub fn carried_is_legal()
+    ensures { (kind : TheKind) (bytes : List ℕ) → IsWithinBounds kind
+        → All IsLegal (carried_flow kind bytes) }
+{}
+
+/// An option lies within its own bounds. A value within them is set in that option alone, and the kind stays within its
+/// bounds.
+pub fn options_are_set()
+    ensures admitted { (kind : TheKind) (option : TheOpt) (setting : Setting) → IsWithinBounds kind
+        → setting_of kind option ≡ Some setting → admits setting setting.value ≡ true }
+    ensures set { (kind : TheKind) (option : TheOpt) (setting : Setting) (value : ℤ)
+        → setting_of kind option ≡ Some setting → admits setting value ≡ true
+        → IsSet option value kind (with_option kind option value) }
 {}
 
 /// To add to sums that are kept one after the other is to add both together.
 pub fn sums_add_up()
     ensures { (sums a b : TheTally) → added (added sums a) b ≡ added sums (plus a b) }
+{}
+
+/// Sums that are kept since the start are the sums, each stopped at 2^64 - 1.
+pub fn kept_sums_stop()
+    ensures { (sums : TheTally) → added nothing sums ≡ stopped sums }
 {}

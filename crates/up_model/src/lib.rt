@@ -13,6 +13,8 @@ mod limits;
 mod lists;
 mod opt;
 mod outcome;
+mod packet_laws;
+mod passed;
 mod pipe;
 mod plain_attrs;
 mod plain_packet;
@@ -26,11 +28,20 @@ pub use event_kind::EventKind;
 pub use form::{SinkForm, SourceForm};
 pub use graph::Graph;
 pub use kind::Kind;
-pub use laws::{blocks_rejoin, chain_copies, outputs_are_legal, settled_is_prefix, sums_add_up};
-pub use limits::{DEFAULT_BLOCK, DEFAULT_QUEUE, MAX_GRAPH, MAX_LIMIT, MAX_PATH, MAX_PIPES};
-pub use lists::{GivenBytes, OutcomeList, PacketList, PipeList, PlaceList, TallyList};
+pub use laws::{
+    blocks_rejoin, carried_is_legal, chain_copies, cut_is_the_rest, kept_sums_stop,
+    options_are_set, outputs_are_legal, settled_is_prefix, settled_sums_grow, shares_are_lawful,
+    starts_with_nothing, sums_add_up, sums_count_packets,
+};
+pub use limits::{
+    DEFAULT_BLOCK, DEFAULT_QUEUE, MAX_ATTRS, MAX_BLOCK, MAX_GRAPH, MAX_LIMIT, MAX_PACKET, MAX_PATH,
+    MAX_PID, MAX_PIPES, MAX_VALUE,
+};
+pub use lists::{GivenBytes, PacketList, PipeList, PlaceList};
 pub use opt::Opt;
 pub use outcome::Outcome;
+pub use packet_laws::packets_stay_legal;
+pub use passed::Passed;
 pub use pipe::{Pipe, default_worker};
 pub use plain_attrs::PlainAttrs;
 pub use plain_packet::PlainPacket;

@@ -21,12 +21,8 @@ pub struct Pipe {
 }
 
 /// The worker of a pipe whose graph names none: `main`.
-#[tactic(auto, unfolding(up_base::specs::NameOf::name_of))]
 pub fn default_worker() -> WorkerName
     ensures { result ≡ codes "main" }
 {
-    match WorkerName::read(b"main") {
-        Ok(worker) => worker,
-        Err(_) => unreachable!(),
-    }
+    WorkerName::of(b"main")
 }

@@ -5,7 +5,7 @@ ghost use Rattle.std.specs.Cmp.Lexicographic.{slice_cmp};
 ghost use Rattle.std.specs.List.{HoldsAt, insert};
 ghost use Rattle.std.specs.List.Sorted.{IsBinarySearchResult, IsSearchInRange};
 ghost use Rattle.std.specs.FinMap as map;
-ghost use Rattle.up_model.specs.Value.{seen};
+ghost use Rattle.up_model.specs.Value.{lent};
 
 use crate::{Value, ValueView};
 use std::alloc::Global;
@@ -48,7 +48,7 @@ fn place_of(entries: &[(AttrName, Value)], name: &AttrName) -> Result<usize, usi
 /// The value of the entry at a place, lent.
 fn value_at(entries: &[(AttrName, Value)], at: usize) -> ValueView<'_>
     requires { at < length entries.now }
-    ensures { HoldsAt (λ entry. entry.1 ≡ seen result) entries.now at }
+    ensures { HoldsAt (λ entry. entry.1 ≡ lent result) entries.now at }
 {
     entries[at].1.view()
 }
@@ -116,7 +116,7 @@ impl PlainAttrs {
     pub fn get(&self, name: &AttrName) -> Option<ValueView<'_>>
         ensures { MatchOption result
             (map.get self.now name.now ≡ None)
-            (λ value. map.get self.now name.now ≡ Some (seen value)) }
+            (λ value. map.get self.now name.now ≡ Some (lent value)) }
     {
         match place_of(&self.entries, name) {
             Ok(at) => Some(value_at(&self.entries, at)),
@@ -148,7 +148,7 @@ impl PlainAttrs {
     /// The attribute at a place of the rising names, counted from 0.
     pub fn at(&self, i: usize) -> (AttrName, ValueView<'_>)
         requires { i < map.len self.now }
-        ensures { slice_get (map.entries self.now) i ≡ Some (result.0, seen result.1) }
+        ensures { slice_get (map.entries self.now) i ≡ Some (result.0, lent result.1) }
     {
         let entry = &self.entries[i];
         (entry.0, entry.1.view())

@@ -1,7 +1,6 @@
 use crate::{
-    CatchSet, DEFAULT_BLOCK, DEFAULT_QUEUE, Graph, Kind, MAX_GRAPH, MAX_LIMIT, MAX_PATH, MAX_PIPES,
-    PacketList, Pipe, PipeList, PlainAttrs, PlainPacket, SinkForm, SourceForm, Tally,
-    blocks_rejoin, chain_copies, default_worker, outputs_are_legal, settled_is_prefix, sums_add_up,
+    CatchSet, DEFAULT_BLOCK, DEFAULT_QUEUE, Graph, Kind, MAX_LIMIT, PacketList, Pipe, PipeList,
+    PlainAttrs, PlainPacket, SinkForm, SourceForm, Tally, default_worker,
 };
 use std::alloc::Global;
 use std::test::Fail;
@@ -10,16 +9,6 @@ use up_base::{Bytes, PipeName, Text};
 #[test]
 fn a_pipe_runs_on_main_where_its_graph_names_no_worker(rt: HostRuntime) {
     assert_eq!(rt; default_worker().bytes(), b"main".as_slice());
-}
-
-#[test]
-fn the_limits_are_those_of_graph_files(rt: HostRuntime) {
-    assert_eq!(rt; MAX_GRAPH, 1024 * 1024);
-    assert_eq!(rt; MAX_PIPES, 256);
-    assert_eq!(rt; MAX_PATH, 4096);
-    assert_eq!(rt; MAX_LIMIT, 1024 * 1024 * 1024 * 1024);
-    assert_eq!(rt; DEFAULT_BLOCK, 4096);
-    assert_eq!(rt; DEFAULT_QUEUE, 64);
 }
 
 #[test]
@@ -36,16 +25,6 @@ fn nothing_is_caught_or_counted_by_default(rt: HostRuntime) {
         tally.lost,
     ];
     assert_eq!(rt; sums, [0; 6]);
-}
-
-#[test]
-fn each_law_can_be_called(rt: HostRuntime) {
-    let _ = rt;
-    blocks_rejoin();
-    chain_copies();
-    settled_is_prefix();
-    outputs_are_legal();
-    sums_add_up();
 }
 
 #[test]

@@ -25,11 +25,11 @@ pub enum ValueView<'a> {
 }
 
 impl Value {
-    ghost use Rattle.up_model.specs.Value.{seen};
+    ghost use Rattle.up_model.specs.Value.{lent};
 
     /// The value, lent.
     pub fn view(&self) -> ValueView<'_>
-        ensures { seen result ≡ self.now }
+        ensures { lent result ≡ self.now }
     {
         match self {
             Value::Void => ValueView::Void,

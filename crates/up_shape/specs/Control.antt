@@ -1,6 +1,7 @@
 -- What a module answers to a command, by the options of its kind.
-use Rattle.std.specs.Prelude.{ℤ, int_le, ◌&&◌, Option, Some, None, Result, Ok, Err, if◌then◌else◌}
-use Rattle.up_model.specs.Options.{Setting, setting_of, with_option}
+use Rattle.std.specs.Prelude.{ℤ, Option, Some, None, Result, Ok, Err, if◌then◌else◌}
+use Rattle.up_model.specs.KindMeaning.{Setting, admits}
+use Rattle.up_model.specs.Kinds.{setting_of, with_option}
 use Rattle.up_model.specs.declared.kind.Kind.{Kind}
 use Rattle.up_model.specs.declared.opt.Opt.{Opt}
 use Rattle.up_shape.specs.declared.control.Command.{Command}
@@ -19,8 +20,7 @@ got (Some setting) = Ok (Value setting.value)
 abbrev pub set_to : ℤ → Option Setting → Result Reply ControlRefused
 set_to value None = Err Unhandled
 set_to value (Some setting) =
-    if int_le setting.low value && int_le value setting.high
-    then Ok Done else Err (Invalid setting.low setting.high)
+    if admits setting value then Ok Done else Err (Invalid setting.low setting.high)
 
 -- what the command is answered
 abbrev pub answer_to : Kind → Command → Result Reply ControlRefused

@@ -1,10 +1,13 @@
 pub mod Bytes
 pub mod Control
-pub mod Fed
 pub mod Growth
 pub mod Histories
 pub mod Outgoing
+pub mod Packetwise
+pub mod Passing
 pub mod Stores
+pub mod TrialPackets
+pub mod Trials
 pub mod VecPackets
 pub mod VecRooms
 pub mod VecStores

@@ -4,4 +4,4 @@ use Rattle.up_shape.specs.declared.vec_packet.VecPacket.{VecPacket}
 
 -- its attributes and its bytes
 abbrev pub plain_of : VecPacket → PlainPacket
-plain_of packet = record { attrs = packet.attrs; bytes = packet.bytes.items }
+plain_of packet = record { attrs = packet.attrs; bytes = packet.bytes }

@@ -1,8 +1,10 @@
 // Whole flows, fed to a module.
-ghost use Rattle.std.specs.Prelude.{◌≡◌, ◌≤◌, ◌++◌, ◌∷◌, [], All, length, map, OnOk};
+ghost use Rattle.std.specs.Prelude.{◌≡◌, ◌≤◌, ◌++◌, ◌∷◌, [], All, length, map, OnOk, OnErr};
 ghost use Rattle.up_model.specs.Kinds.{work_of, settled_work};
 ghost use Rattle.up_model.specs.Packet.{Flow, IsLegal, plain};
-ghost use Rattle.up_shape.specs.Growth.{AreOf, Grew};
+ghost use Rattle.up_model.specs.Work.{no_work};
+ghost use Rattle.up_model.specs.declared.limits.TheConstants.{MAX_PACKET};
+ghost use Rattle.up_shape.specs.Growth.{AreOf, Grew, GrewInPart};
 ghost use Rattle.up_shape.specs.Stores.{Stays};
 
 use crate::{LocalPacket, Module, Outbox};
@@ -19,7 +21,8 @@ pub fn give_up_all<P: LocalPacket>(mut packets: ItemList<P>, s: &mut P::Store)
     packets.end();
 }
 
-/// Feeds the packets to the module, in order. After `NoMemory` those that weren't fed are given up.
+/// Feeds the packets to the module, in order. After `NoMemory` those that weren't fed are given up, and the module is
+/// one to be given up.
 pub fn feed_all<P: LocalPacket, M: Module<P>>(
     m: &mut M,
     mut flow: ItemList<P>,
@@ -34,6 +37,10 @@ pub fn feed_all<P: LocalPacket, M: Module<P>>(
     ensures grew { (fed : Flow) → M.stands m.old fed
         → OnOk result (Grew P.plain out.old out.new (settled_work (M.kind m.old) fed)
         (settled_work (M.kind m.old) (fed ++ map P.plain flow))) }
+    ensures in_part { (fed : Flow) → M.stands m.old fed
+        → OnErr result (GrewInPart P.plain out.old out.new (settled_work (M.kind m.old) fed)
+        (settled_work (M.kind m.old) (fed ++ map P.plain flow))) }
+    ensures used { OnErr result (M.stands m.new [] → ⊥) }
     ensures kind { M.kind m.new ≡ M.kind m.old }
     ensures family { AreOf P.fits (M.agrees m.new) out.new.packets (P.Store.family s.old) }
     ensures store { Stays P.Store.family P.Store.kept P.Store.drawn s.old s.new }
@@ -51,19 +58,22 @@ pub fn feed_all<P: LocalPacket, M: Module<P>>(
     Ok(())
 }
 
-/// Makes a packet of these bytes, at most 1,048,576, and feeds it.
+/// Makes a packet of these bytes, at most `MAX_PACKET`, and feeds it. After `NoMemory` the module is one to be given up.
 pub fn feed_bytes<P: LocalPacket, M: Module<P>>(
     m: &mut M,
     bytes: &[u8],
     out: &mut Outbox<P>,
     s: &mut P::Store,
 ) -> Result<(), NoMemory>
-    requires size { length bytes.now ≤ 1048576 }
+    requires size { length bytes.now ≤ MAX_PACKET }
     requires family { AreOf P.fits (M.agrees m.old) out.old.packets (P.Store.family s.old) }
     ensures stands { (fed : Flow) → M.stands m.old fed
         → OnOk result (M.stands m.new (fed ++ plain bytes.now ∷ [])) }
     ensures grew { (fed : Flow) → M.stands m.old fed
         → OnOk result (Grew P.plain out.old out.new (settled_work (M.kind m.old) fed)
+        (settled_work (M.kind m.old) (fed ++ plain bytes.now ∷ []))) }
+    ensures in_part { (fed : Flow) → M.stands m.old fed
+        → OnErr result (GrewInPart P.plain out.old out.new (settled_work (M.kind m.old) fed)
         (settled_work (M.kind m.old) (fed ++ plain bytes.now ∷ []))) }
     ensures kind { M.kind m.new ≡ M.kind m.old }
     ensures family { AreOf P.fits (M.agrees m.new) out.new.packets (P.Store.family s.old) }
@@ -75,8 +85,8 @@ pub fn feed_bytes<P: LocalPacket, M: Module<P>>(
     }
 }
 
-/// Feeds a whole flow to a module that was fed nothing, and ends it: what the module puts out and counts is the work of
-/// its kind on this flow.
+/// Feeds a whole flow to a module that was fed nothing, and ends it: what comes into the outbox is the work of its kind
+/// on this flow, from nothing. After `NoMemory` it is a first part of that, and what wasn't put out is given up.
 pub fn run_flow<P: LocalPacket, M: Module<P>>(
     mut m: M,
     flow: ItemList<P>,
@@ -86,9 +96,11 @@ pub fn run_flow<P: LocalPacket, M: Module<P>>(
     requires fresh { M.stands m [] }
     requires legal { All (λ p. IsLegal (P.plain p)) flow }
     requires packets { All (λ p. P.fits p (P.Store.family s.old)) flow }
-    requires family { AreOf P.fits (M.agrees m) out.old.packets (P.Store.family s.old) }
+    requires family { All (λ p. P.fits p (P.Store.family s.old)) out.old.packets }
     ensures grew { OnOk result (Grew P.plain out.old out.new
-        (settled_work (M.kind m) []) (work_of (M.kind m) (map P.plain flow))) }
+        no_work (work_of (M.kind m) (map P.plain flow))) }
+    ensures in_part { OnErr result (GrewInPart P.plain out.old out.new
+        no_work (work_of (M.kind m) (map P.plain flow))) }
     ensures family { All (λ p. P.fits p (P.Store.family s.old)) out.new.packets }
     ensures store { Stays P.Store.family P.Store.kept P.Store.drawn s.old s.new }
 {

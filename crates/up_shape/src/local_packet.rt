@@ -1,10 +1,12 @@
-ghost use Rattle.std.specs.Prelude.{◌≡◌, ◌≢◌, ◌<◌, ◌≤◌, ◌+◌, ◌-◌, ◌^◌, ◌++◌, ◌⊎◌, ℕ, List, [], Some, None, true};
+ghost use Rattle.std.specs.Prelude.{◌≡◌, ◌<◌, ◌≤◌, ◌+◌, ◌++◌, ◌⊎◌, List, ℕ, [], Some, None, true};
 ghost use Rattle.std.specs.Prelude.{length, take, drop, slice_get, slice_range};
 ghost use Rattle.std.specs.Prelude.{IfOk, IfErr, OnOk, OnErr, MatchOption};
 ghost use Rattle.std.specs.Borrow.{sem, Lends, Array, u8};
 ghost use Rattle.std.specs.FinMap as map;
+ghost use Rattle.up_base.specs.Lists.{IsPrefix};
 ghost use Rattle.up_model.specs.Packet.{plain as bare};
-ghost use Rattle.up_model.specs.Value.{seen, value_size};
+ghost use Rattle.up_model.specs.Value.{lent, IsLegalValue};
+ghost use Rattle.up_model.specs.declared.limits.TheConstants.{MAX_PACKET, MAX_ATTRS};
 ghost use Rattle.up_model.specs.declared.plain_packet.PlainPacket.{PlainPacket};
 ghost use Rattle.up_shape.specs.Bytes.{written_at};
 ghost use Rattle.up_shape.specs.Stores.{Stays};
@@ -12,6 +14,9 @@ ghost use Rattle.up_shape.specs.Stores.{Stays};
 use crate::Stash;
 use up_base::{AttrName, NoMemory, NoRoom};
 use up_model::ValueView;
+
+/// The most bytes that packets are added up to: 2^31 - 1.
+pub const MAX_JOINED: u32 = 2_147_483_647;
 
 /// A packet as one thread handles it: attributes and bytes. Code that is generic over packets can't drop one: it gives
 /// each up by a call. A `Packet` can cross threads too.
@@ -39,7 +44,7 @@ pub trait LocalPacket: Sized {
 
     /// A room of so many bytes, whatever they are.
     fn room(size: u32, s: &mut Self::Store) -> Result<Self::Room, NoMemory>
-        requires { (0 < size) × (size ≤ 1048576) }
+        requires { (0 < size) × (size ≤ MAX_PACKET) }
         ensures size { IfOk result (λ r. length (content r) ≡ size) }
         ensures family { IfOk result (λ r. room_fits r (Self.Store.family s.old)) }
         ensures drawn { OnOk result (Self.Store.drawn s.old < Self.Store.drawn s.new) }
@@ -60,21 +65,19 @@ pub trait LocalPacket: Sized {
         ensures back { IfErr result (λ refused. refused.back ≡ r) }
         ensures store { Stays Self.Store.family Self.Store.kept Self.Store.drawn s.old s.new };
 
-    /// Gives the room up.
     fn give_room(r: Self::Room, s: &mut Self::Store)
         requires family { room_fits r (Self.Store.family s.old) }
         ensures store { Stays Self.Store.family Self.Store.kept Self.Store.drawn s.old s.new };
 
-    /// A packet of these bytes, at most 1,048,576, without attributes.
+    /// A packet of these bytes, without attributes.
     fn fresh(bytes: &[u8], s: &mut Self::Store) -> Result<Self, NoMemory>
-        requires { length bytes.now ≤ 1048576 }
+        requires { length bytes.now ≤ MAX_PACKET }
         ensures plain { IfOk result (λ p. plain p ≡ bare bytes.now) }
         ensures family { IfOk result (λ p. fits p (Self.Store.family s.old)) }
         ensures drawn { OnOk result (0 < length bytes.now
             → Self.Store.drawn s.old < Self.Store.drawn s.new) }
         ensures store { Stays Self.Store.family Self.Store.kept Self.Store.drawn s.old s.new };
 
-    /// How many bytes it has.
     fn size(&self) -> u32
         ensures { result ≡ length (plain self.now).bytes };
 
@@ -83,13 +86,19 @@ pub trait LocalPacket: Sized {
         requires { at + length out.old ≤ length (plain self.now).bytes }
         ensures { out.new ≡ slice_range (plain self.now).bytes at (at + length out.old) };
 
+    /// The longest run of bytes that lies together from the place `at` on.
+    fn bytes_at(&self, at: u32) -> &[u8]
+        requires { at ≤ length (plain self.now).bytes }
+        ensures run { IsPrefix result.now (drop at (plain self.now).bytes) }
+        ensures within { at + length result.now ≤ length (plain self.now).bytes }
+        ensures some { at < length (plain self.now).bytes → 0 < length result.now };
+
     /// The value of the attribute, where it is there.
     fn value(&self, name: &AttrName) -> Option<ValueView<'_>>
         ensures { MatchOption result
             (map.get (plain self.now).attrs name.now ≡ None)
-            (λ value. map.get (plain self.now).attrs name.now ≡ Some (seen value)) };
+            (λ value. map.get (plain self.now).attrs name.now ≡ Some (lent value)) };
 
-    /// How many attributes it has.
     fn attr_count(&self) -> usize
         ensures { result ≡ map.len (plain self.now).attrs };
 
@@ -97,15 +106,15 @@ pub trait LocalPacket: Sized {
     fn attr_at(&self, i: usize) -> (AttrName, ValueView<'_>)
         requires { i < map.len (plain self.now).attrs }
         ensures { slice_get (map.entries (plain self.now).attrs) i
-            ≡ Some (result.0, seen result.1) };
+            ≡ Some (result.0, lent result.1) };
 
-    /// Gives the attribute this value, of at most 4,096 bytes. A new one needs that fewer than 64 are there.
+    /// Gives the attribute this value. A new one needs that fewer than `MAX_ATTRS` are there.
     fn set_attr(&mut self, name: &AttrName, value: ValueView<'_>) -> Result<(), NoMemory>
-        requires size { value_size (seen value) ≤ 4096 }
+        requires legal { IsLegalValue (lent value) }
         requires room { (map.contains_key (plain self.old).attrs name.now ≡ true)
-            ⊎ (map.len (plain self.old).attrs < 64) }
+            ⊎ (map.len (plain self.old).attrs < MAX_ATTRS) }
         ensures set { OnOk result (plain self.new ≡ record (plain self.old) {
-          attrs = map.insert (plain self.old).attrs name.now (seen value.entry);
+          attrs = map.insert (plain self.old).attrs name.now (lent value.entry);
         }) }
         ensures unchanged { OnErr result (plain self.new ≡ plain self.old) }
         ensures family { (f : Self.Store.Family) → fits self.old f → fits self.new f };
@@ -161,9 +170,9 @@ pub trait LocalPacket: Sized {
         ensures stays { fits self.new (Self.Store.family s.old) }
         ensures store { Stays Self.Store.family Self.Store.kept Self.Store.drawn s.old s.new };
 
-    /// Adds the bytes of another packet at the end, up to 2^31 - 1 in all, and gives up its attributes.
+    /// Adds the bytes of another packet at the end, and gives up its attributes.
     fn add(&mut self, other: Self, s: &mut Self::Store) -> Result<(), NoRoom<Self>>
-        requires size { length (plain self.old).bytes + length (plain other).bytes < 2 ^ 31 }
+        requires size { length (plain self.old).bytes + length (plain other).bytes ≤ MAX_JOINED }
         requires family { fits self.old (Self.Store.family s.old)
             × fits other (Self.Store.family s.old) }
         ensures added { OnOk result (plain self.new ≡ record (plain self.old) {
@@ -185,7 +194,6 @@ pub trait LocalPacket: Sized {
         ensures stays { fits self.new (Self.Store.family s.old) }
         ensures store { Stays Self.Store.family Self.Store.kept Self.Store.drawn s.old s.new };
 
-    /// Gives the packet up.
     fn give_up(self, s: &mut Self::Store)
         requires family { fits self (Self.Store.family s.old) }
         ensures store { Stays Self.Store.family Self.Store.kept Self.Store.drawn s.old s.new };

@@ -1,5 +1,5 @@
 ghost use Rattle.std.specs.Prelude.{◌≡◌, ◌↔◌, ◌∷◌, ◌++◌, [], All, IsTrue, OnOk, OnErr};
-ghost use Rattle.up_model.specs.Kinds.{work_of, settled_work};
+ghost use Rattle.up_model.specs.Kinds.{IsWithinBounds, work_of, settled_work};
 ghost use Rattle.up_model.specs.Packet.{Flow, IsLegal};
 ghost use Rattle.up_model.specs.declared.kind.Kind.{Kind};
 ghost use Rattle.up_shape.specs.Control.{answer_to, kind_after, Sets};
@@ -37,6 +37,7 @@ pub trait Module<P: LocalPacket>: Sized {
             → OnErr result (GrewInPart P.plain out.old out.new
             (settled_work (kind self.old) fed)
             (settled_work (kind self.old) (fed ++ P.plain p ∷ []))) }
+        ensures used { OnErr result (stands self.new [] → ⊥) }
         ensures kind { kind self.new ≡ kind self.old }
         ensures family { AreOf P.fits (agrees self.new) out.new.packets (P.Store.family s.old) }
         ensures store { Stays P.Store.family P.Store.kept P.Store.drawn s.old s.new };
@@ -70,4 +71,10 @@ pub trait Module<P: LocalPacket>: Sized {
         ensures kind { kind self.new ≡ kind_after (kind self.old) c }
         ensures stands { (fed : Flow) → stands self.old fed → stands self.new fed }
         ensures family { (f : P.Store.Family) → agrees self.old f → agrees self.new f };
+
+    /// One that was fed nothing agrees with every family.
+    ghost holds_nothing: { (m : Self) (f : P.Store.Family) → stands m [] → agrees m f };
+
+    /// Its kind is within its bounds.
+    ghost within: { (m : Self) → IsWithinBounds (kind m) };
 }

@@ -1,6 +1,6 @@
 //! Attributes that are made a second time.
 ghost use Rattle.std.specs.Prelude.{◌≡◌, IfOk};
-ghost use Rattle.up_model.specs.Value.{seen};
+ghost use Rattle.up_model.specs.Value.{lent};
 
 use std::alloc::Global;
 use up_base::{Bytes, NoMemory, Text};
@@ -8,7 +8,7 @@ use up_model::{PlainAttrs, Value, ValueView};
 
 /// The value that is lent, on memory of its own.
 pub(crate) fn owned(alloc: Global, value: ValueView<'_>) -> Result<Value, NoMemory>
-    ensures { IfOk result (λ made. made ≡ seen value.entry) }
+    ensures { IfOk result (λ made. made ≡ lent value.entry) }
 {
     Ok(match value {
         ValueView::Void => Value::Void,

@@ -1,6 +1,9 @@
 ghost use Rattle.std.specs.Prelude.{◌≡◌, ◌≤◌, ◌+◌, ℕ};
 ghost use Rattle.up_shape.specs.Stores.{Stays};
 
+/// The most carriers that a store keeps.
+pub const MAX_KEPT: usize = 64;
+
 /// What packets draw their memory from. Stores that stem from one have one family, and so has all that was made with
 /// them.
 pub trait Stash: Sized {
@@ -26,16 +29,14 @@ pub trait Stash: Sized {
     /// Takes in another store of the family.
     fn join(&mut self, other: Self)
         requires family { family other ≡ family self.old }
-        requires few { kept self.old + kept other ≤ 64 }
+        requires few { kept self.old + kept other ≤ MAX_KEPT }
         ensures family { family self.new ≡ family self.old }
         ensures kept { kept self.new ≤ kept self.old + kept other }
         ensures drawn { drawn self.new ≡ drawn self.old + drawn other };
 
-    /// How many carriers it keeps.
     fn kept(&self) -> usize
         ensures { result ≡ kept self.now };
 
-    /// The family.
     fn family(&self) -> Self::Family
         ensures { result ≡ family self.now };
 }

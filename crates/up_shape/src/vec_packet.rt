@@ -1,7 +1,8 @@
-ghost use Rattle.std.specs.Prelude.{◌≡◌, ◌<◌, ◌^◌, length};
+ghost use Rattle.std.specs.Prelude.{◌≡◌, ◌<◌, ◌≤◌, ◌^◌, length, drop};
 
-use crate::byte_edits::{copy_from, drop_first, write_over};
+use crate::byte_edits::copy_from;
 use crate::plain_copy::{copied, owned};
+use crate::vec_bytes::VecBytes;
 use crate::{LocalPacket, Packet, VecRoom, VecStore};
 use up_base::{AttrName, Kin, NoMemory, NoRoom};
 use up_model::{PlainAttrs, ValueView};
@@ -10,25 +11,23 @@ use up_model::{PlainAttrs, ValueView};
 #[derive(Debug, Drop)]
 pub struct VecPacket {
     attrs: PlainAttrs,
-    bytes: Vec<u8>,
-    ghost small: { length bytes.items < 2 ^ 32 },
+    bytes: VecBytes,
+    ghost small: { length bytes < 2 ^ 32 },
 }
 
 impl VecPacket {
     ghost use Rattle.up_shape.specs.VecPackets.{plain_of};
 
-    /// The attributes.
     pub fn attrs(&self) -> &PlainAttrs
         ensures { result.now ≡ (plain_of self.now).attrs }
     {
         &self.attrs
     }
 
-    /// The bytes.
     pub fn bytes(&self) -> &[u8]
         ensures { result.now ≡ (plain_of self.now).bytes }
     {
-        &self.bytes
+        self.bytes.as_slice()
     }
 }
 
@@ -72,7 +71,7 @@ impl LocalPacket for VecPacket {
     fn of_room(r: VecRoom, n: u32, s: &mut VecStore) -> Result<VecPacket, NoRoom<VecRoom>> {
         Ok(VecPacket {
             attrs: PlainAttrs::new(s.alloc()),
-            bytes: r.into_front(n),
+            bytes: VecBytes::whole(r.into_front(n)),
         })
     }
 
@@ -81,7 +80,7 @@ impl LocalPacket for VecPacket {
     fn fresh(bytes: &[u8], s: &mut VecStore) -> Result<VecPacket, NoMemory> {
         let packet = VecPacket {
             attrs: PlainAttrs::new(s.alloc()),
-            bytes: Vec::from_slice(s.alloc(), bytes)?,
+            bytes: VecBytes::of_slice(s.alloc(), bytes)?,
         };
         if !bytes.is_empty() {
             s.draw();
@@ -90,11 +89,19 @@ impl LocalPacket for VecPacket {
     }
 
     fn size(&self) -> u32 {
-        self.bytes.len() as u32
+        self.bytes().len() as u32
     }
 
     fn read(&self, at: u32, out: &mut [u8]) {
-        copy_from(&self.bytes, at as usize, out);
+        copy_from(self.bytes(), at as usize, out);
+    }
+
+    /// All bytes from the place `at` on, since they lie together.
+    fn bytes_at(&self, at: u32) -> &[u8]
+        requires { at ≤ length (plain_of self.now).bytes }
+        ensures { result.now ≡ drop at (plain_of self.now).bytes }
+    {
+        &self.bytes()[at as usize..]
     }
 
     fn value(&self, name: &AttrName) -> Option<ValueView<'_>> {
@@ -110,7 +117,7 @@ impl LocalPacket for VecPacket {
     }
 
     fn set_attr(&mut self, name: &AttrName, value: ValueView<'_>) -> Result<(), NoMemory> {
-        let value = owned(*self.bytes.allocator(), value)?;
+        let value = owned(self.bytes.alloc(), value)?;
         match self.attrs.set(*name, value) {
             Ok(_) => Ok(()),
             Err(_) => Err(NoMemory),
@@ -124,36 +131,36 @@ impl LocalPacket for VecPacket {
     fn dup(&mut self, s: &mut VecStore) -> Result<VecPacket, NoMemory> {
         Ok(VecPacket {
             attrs: copied(s.alloc(), &self.attrs)?,
-            bytes: Vec::from_slice(s.alloc(), &self.bytes)?,
+            bytes: VecBytes::of_slice(s.alloc(), self.bytes())?,
         })
     }
 
     fn front(&mut self, n: u32, s: &mut VecStore) -> Result<VecPacket, NoMemory> {
         let front = VecPacket {
             attrs: copied(s.alloc(), &self.attrs)?,
-            bytes: Vec::from_slice(s.alloc(), &self.bytes[..n as usize])?,
+            bytes: VecBytes::of_slice(s.alloc(), &self.bytes()[..n as usize])?,
         };
-        drop_first(&mut self.bytes, n as usize);
+        self.bytes.drop_front(n as usize);
         Ok(front)
     }
 
     fn drop_front(&mut self, n: u32, _s: &mut VecStore) {
-        drop_first(&mut self.bytes, n as usize);
+        self.bytes.drop_front(n as usize);
     }
 
     fn keep_front(&mut self, n: u32, _s: &mut VecStore) {
-        self.bytes.truncate(n as usize);
+        self.bytes.keep_front(n as usize);
     }
 
     fn add(&mut self, other: VecPacket, _s: &mut VecStore) -> Result<(), NoRoom<VecPacket>> {
-        match self.bytes.extend_from_slice(&other.bytes) {
+        match self.bytes.append(other.bytes()) {
             Ok(()) => Ok(()),
             Err(_) => Err(NoRoom { back: other }),
         }
     }
 
     fn set_bytes(&mut self, at: u32, bytes: &[u8], _s: &mut VecStore) -> Result<(), NoMemory> {
-        write_over(&mut self.bytes, at as usize, bytes);
+        self.bytes.write_at(at as usize, bytes);
         Ok(())
     }
 

@@ -3,30 +3,51 @@ ghost use Rattle.std.specs.Prelude.{◌<◌, ◌≤◌, length};
 use crate::{LocalPacket, Packet, VecPacket, VecStore};
 use std::process::Abort;
 use up_base::NoRoom;
+use up_model::MAX_PACKET;
 
-/// The packet has these bytes.
+/// The packet lends these bytes, run after run, and fills a room with them.
 pub(crate) fn assert_bytes<P: LocalPacket>(rt: &impl Abort, packet: &P, wanted: &[u8]) {
-    let size = packet.size();
-    let mut room = [0; 8];
-    assert!(rt; size <= 8);
-    let found = &mut room[..size as usize];
-    packet.read(0, found);
-    let found: &[u8] = found;
-    assert_eq!(rt; found, wanted);
+    assert_eq!(rt; packet.size() as usize, wanted.len());
+    let mut at = 0;
+    while at < wanted.len() {
+        let run = packet.bytes_at(at as u32);
+        let end = at + run.len();
+        assert_eq!(rt; run, &wanted[at..end]);
+        at = end;
+    }
 }
 
-/// A packet of these bytes.
+/// The packet fills a room of 8 bytes from the place on with these.
+fn assert_read<P: LocalPacket>(rt: &impl Abort, packet: &P, at: u32, wanted: &[u8; 8]) {
+    let mut found = [0; 8];
+    assert!(rt; at <= MAX_PACKET && at + 8 <= packet.size());
+    packet.read(at, &mut found);
+    assert_eq!(rt; found, *wanted);
+}
+
+pub(crate) fn room<P: LocalPacket>(rt: &impl Abort, size: u32, s: &mut P::Store) -> P::Room
+    requires some { 0 < size }
+    requires fits { size ≤ MAX_PACKET }
+{
+    P::room(size, s).expect(rt, "no memory")
+}
+
 pub(crate) fn fresh<P: LocalPacket>(rt: &impl Abort, bytes: &[u8], s: &mut P::Store) -> P
-    requires { length bytes.now ≤ 1048576 }
+    requires { length bytes.now ≤ MAX_PACKET }
 {
     P::fresh(bytes, s).expect(rt, "no memory")
 }
 
 /// A packet of the first bytes of a room that was filled with these.
-fn of_filled<P: LocalPacket>(rt: &impl Abort, bytes: &[u8], count: u32, s: &mut P::Store) -> P
+pub(crate) fn of_filled<P: LocalPacket>(
+    rt: &impl Abort,
+    bytes: &[u8],
+    count: u32,
+    s: &mut P::Store,
+) -> P
     requires some { 0 < count }
     requires within { count ≤ length bytes.now }
-    requires fits { length bytes.now ≤ 1048576 }
+    requires fits { length bytes.now ≤ MAX_PACKET }
 {
     let mut room = P::room(bytes.len() as u32, s).expect(rt, "no memory");
     P::room_bytes(&mut room).copy_from_slice(bytes);
@@ -39,7 +60,6 @@ fn of_filled<P: LocalPacket>(rt: &impl Abort, bytes: &[u8], count: u32, s: &mut 
     }
 }
 
-/// A second packet of the same attributes and bytes.
 pub(crate) fn dup<P: LocalPacket>(rt: &impl Abort, packet: &mut P, s: &mut P::Store) -> P
     requires { P.fits packet.old (P.Store.family s.old) }
 {
@@ -59,12 +79,11 @@ pub(crate) fn front<P: LocalPacket>(
     packet.front(count, s).expect(rt, "no memory")
 }
 
-/// Adds the bytes of another.
-fn add<P: LocalPacket>(rt: &impl Abort, packet: &mut P, other: P, s: &mut P::Store)
+pub(crate) fn add<P: LocalPacket>(rt: &impl Abort, packet: &mut P, other: P, s: &mut P::Store)
     requires packet { P.fits packet.old (P.Store.family s.old) }
     requires other { P.fits other (P.Store.family s.old) }
 {
-    assert!(rt; packet.size() < 8 && other.size() < 8);
+    assert!(rt; packet.size() <= MAX_PACKET && other.size() <= MAX_PACKET);
     match packet.add(other, s) {
         Ok(()) => {}
         Err(NoRoom { back }) => {
@@ -74,12 +93,19 @@ fn add<P: LocalPacket>(rt: &impl Abort, packet: &mut P, other: P, s: &mut P::Sto
     }
 }
 
-/// Writes these bytes over the first ones.
-fn set_first<P: LocalPacket>(rt: &impl Abort, packet: &mut P, bytes: &[u8], s: &mut P::Store)
-    requires { P.fits packet.old (P.Store.family s.old) }
+/// Writes these bytes over those from the place on.
+pub(crate) fn set_bytes<P: LocalPacket>(
+    rt: &impl Abort,
+    packet: &mut P,
+    at: u32,
+    bytes: &[u8],
+    s: &mut P::Store,
+)
+    requires packet { P.fits packet.old (P.Store.family s.old) }
+    requires size { length bytes.now ≤ MAX_PACKET }
 {
-    assert!(rt; bytes.len() <= packet.size() as usize);
-    packet.set_bytes(0, bytes, s).expect(rt, "no memory");
+    assert!(rt; at <= packet.size() && bytes.len() as u32 <= packet.size() - at);
+    packet.set_bytes(at, bytes, s).expect(rt, "no memory");
 }
 
 #[test]
@@ -95,22 +121,30 @@ fn a_packet_is_filled_doubled_cut_joined_and_written_over(rt: HostRuntime) {
     let other = fresh(&rt, b"z", s);
     add(&rt, &mut packet, other, s);
     assert_bytes(&rt, &packet, b"bcz");
-    set_first(&rt, &mut packet, b"Q", s);
+    set_bytes(&rt, &mut packet, 0, b"Q", s);
     assert_bytes(&rt, &packet, b"Qcz");
     assert_bytes(&rt, &double, b"abc");
     assert_bytes(&rt, &first, b"a");
 }
 
-/// Gives up the first bytes.
-fn drop_front<P: LocalPacket>(rt: &impl Abort, packet: &mut P, count: u32, s: &mut P::Store)
+pub(crate) fn drop_front<P: LocalPacket>(
+    rt: &impl Abort,
+    packet: &mut P,
+    count: u32,
+    s: &mut P::Store,
+)
     requires { P.fits packet.old (P.Store.family s.old) }
 {
     assert!(rt; count <= packet.size());
     packet.drop_front(count, s);
 }
 
-/// Gives up all but the first bytes.
-fn keep_front<P: LocalPacket>(rt: &impl Abort, packet: &mut P, count: u32, s: &mut P::Store)
+pub(crate) fn keep_front<P: LocalPacket>(
+    rt: &impl Abort,
+    packet: &mut P,
+    count: u32,
+    s: &mut P::Store,
+)
     requires { P.fits packet.old (P.Store.family s.old) }
 {
     assert!(rt; count <= packet.size());
@@ -122,7 +156,6 @@ fn parked<P: Packet>(packet: P) -> P {
     P::unpark(packet.park())
 }
 
-/// Gives a packet up.
 fn give_up<P: LocalPacket>(packet: P, s: &mut P::Store)
     requires { P.fits packet (P.Store.family s.old) }
 {
@@ -144,13 +177,38 @@ fn a_packet_is_cut_from_both_ends_and_parked(rt: HostRuntime) {
     give_up(packet, s);
 }
 
-/// Makes a room and gives it up.
-fn give_room<P: LocalPacket>(rt: &impl Abort, s: &mut P::Store) {
-    let room = P::room(4, s).expect(rt, "no memory");
+#[test]
+fn a_packet_without_its_front_is_read_doubled_joined_and_written_over(rt: HostRuntime) {
+    let s = &mut VecStore::new(rt.alloc());
+    let mut packet: VecPacket = fresh(&rt, b"abcdefghijkl", s);
+    drop_front(&rt, &mut packet, 2, s);
+    assert_read(&rt, &packet, 0, b"cdefghij");
+    assert_read(&rt, &packet, 2, b"efghijkl");
+    let mut double = dup(&rt, &mut packet, s);
+    set_bytes(&rt, &mut packet, 1, b"XYZ", s);
+    assert_bytes(&rt, &packet, b"cXYZghijkl");
+    assert_bytes(&rt, &double, b"cdefghijkl");
+    drop_front(&rt, &mut double, 7, s);
+    let other = fresh(&rt, b"mn", s);
+    add(&rt, &mut double, other, s);
+    assert_bytes(&rt, &double, b"jklmn");
+    add(&rt, &mut packet, double, s);
+    assert_bytes(&rt, &packet, b"cXYZghijkljklmn");
+}
+
+/// A room has so many bytes, and is given up.
+fn give_room<P: LocalPacket>(rt: &impl Abort, size: u32, s: &mut P::Store)
+    requires some { 0 < size }
+    requires fits { size ≤ MAX_PACKET }
+{
+    let mut room = P::room(size, s).expect(rt, "no memory");
+    assert_eq!(rt; P::room_bytes(&mut room).len(), size as usize);
     P::give_room(room, s);
 }
 
 #[test]
-fn a_room_may_be_given_up_unused(rt: HostRuntime) {
-    give_room::<VecPacket>(&rt, &mut VecStore::new(rt.alloc()));
+fn a_room_has_its_bytes_and_is_given_up(rt: HostRuntime) {
+    let s = &mut VecStore::new(rt.alloc());
+    give_room::<VecPacket>(&rt, 1, s);
+    give_room::<VecPacket>(&rt, 1_048_576, s);
 }

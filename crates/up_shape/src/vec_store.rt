@@ -23,7 +23,6 @@ impl VecStore {
         }
     }
 
-    /// What takes its memory.
     pub(crate) fn alloc(&self) -> Global {
         self.alloc
     }

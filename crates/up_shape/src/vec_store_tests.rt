@@ -1,21 +1,20 @@
 ghost use Rattle.std.specs.Prelude.{◌≤◌};
 
-use crate::{Stash, VecStore};
+use crate::vec_packet_tests::{assert_bytes, fresh, room};
+use crate::{MAX_KEPT, Stash, VecPacket, VecStore};
 
 /// Splits a store and joins both parts again.
 fn split_and_join<S: Stash>(store: &mut S)
-    requires { S.kept store.old ≤ 64 }
+    requires { S.kept store.old ≤ MAX_KEPT }
 {
     let other = store.split();
     store.join(other);
 }
 
-/// How many carriers the store keeps.
 fn kept<S: Stash>(store: &S) -> usize {
     store.kept()
 }
 
-/// The family of the store.
 fn family<S: Stash>(store: &S) -> S::Family {
     store.family()
 }
@@ -26,4 +25,18 @@ fn a_store_of_vectors_keeps_nothing_and_can_be_split_and_joined(rt: HostRuntime)
     split_and_join(&mut store);
     assert_eq!(rt; kept(&store), 0);
     assert_eq!(rt; family(&store), ());
+}
+
+/// A value that can cross threads.
+fn sent<T: Send>(value: T) -> T {
+    value
+}
+
+#[test]
+fn stores_rooms_and_packets_can_cross_threads(rt: HostRuntime) {
+    let mut s = sent(VecStore::new(rt.alloc()));
+    let mut filled = sent(room::<VecPacket>(&rt, 3, &mut s));
+    assert_eq!(rt; filled.bytes_mut().len(), 3);
+    let packet: VecPacket = sent(fresh(&rt, b"abc", &mut s));
+    assert_bytes(&rt, &packet, b"abc");
 }

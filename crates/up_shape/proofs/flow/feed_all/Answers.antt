@@ -1,6 +1,6 @@
 use Rattle.std.proofs.lemmas.List.Elements.{All-head, All-tail}
 use Rattle.up_model.specs.Packet.{IsLegal}
-use Rattle.up_shape.proofs.Fed.{not_fed, fed_next}
+use Rattle.up_shape.proofs.Fed.{not_fed, fed_next, fed_in_part}
 use Rattle.up_shape.proofs.StoreSteps.{Stays-refl, Stays-trans}
 use Rattle.up_shape.proofs.flow.feed_all.Goals as goal
 
@@ -34,3 +34,8 @@ give_up_all-requires g c =
     let fits = rw c.in-Some.ensures at c.loop-p.invariant.2 in
     rw (c.feed.ensures.store.same, c.loop-p.invariant.4.same)
     (record { family = All-tail (λ p. g.P.LocalPacket.fits p (g.P.Store.Stash.family c.args.s.now)) _ _ fits })
+
+pub returns-in-Err-clause-in_part : goal.returns-in-Err-clause-in_part
+returns-in-Err-clause-in_part g c =
+    let fed = rw c.in-Some.ensures at c.loop-p.invariant.0 in
+    fed_in_part _ _ _ _ _ _ (g.met.M.Module.within c.args.m.now) _ _ _ _ _ fed c.in-Err.ensures.in_part

@@ -1,6 +1,6 @@
 use Rattle.std.proofs.Common.{All, length}
 use Rattle.up_model.specs.Packet.{IsLegal}
-use Rattle.up_shape.specs.Fed.{IsFed}
+use Rattle.up_shape.proofs.Fed.{IsFed}
 use Rattle.up_shape.specs.Growth.{AreOf}
 use Rattle.up_shape.specs.Stores.{Stays}
 use Rattle.up_shape.proofs.flow.feed_all.Given as goal

@@ -1,0 +1,38 @@
+-- Every kind keeps the laws: one row a kind.
+use Rattle.std.proofs.Common.{refl}
+use Rattle.up_model.proofs.Ends.{source_is_lawful, sink_is_lawful}
+use Rattle.up_model.proofs.Lawful.{IsLawful, by_packets, no_options_kept, whole_shares}
+use Rattle.up_model.proofs.Skip.{skip_is_lawful}
+use Rattle.up_model.specs.KindMeaning.{no_options}
+use Rattle.up_model.specs.Packetwise.{passes_on, drops}
+use Rattle.up_model.specs.declared.kind.Kind.{Kind}
+use Rattle.up_model.specs.declared.kind.Kind.TheVariants.{Source, Sink, Idem, Null, Dup, Skip}
+
+idem_is_lawful : IsLawful Idem
+idem_is_lawful = record {
+  flows = λ within. by_packets (Unit {0}) passes_on no_options (λ packet legal. legal);
+  options = no_options_kept Idem (λ option. refl);
+  shares = whole_shares Idem (λ select flow. refl) (λ numbers. refl);
+}
+
+null_is_lawful : IsLawful Null
+null_is_lawful = record {
+  flows = λ within. by_packets (Unit {0}) drops no_options (λ packet legal. tt);
+  options = no_options_kept Null (λ option. refl);
+  shares = whole_shares Null (λ select flow. refl) (λ numbers. refl);
+}
+
+dup_is_lawful : IsLawful Dup
+dup_is_lawful = record {
+  flows = λ within. by_packets (Unit {0}) passes_on no_options (λ packet legal. legal);
+  options = no_options_kept Dup (λ option. refl);
+  shares = whole_shares Dup (λ select flow. refl) (λ numbers. refl);
+}
+
+pub lawful : (kind : Kind) → IsLawful kind
+lawful (Source path form limit) = source_is_lawful path form limit
+lawful (Sink path form) = sink_is_lawful path form
+lawful Idem = idem_is_lawful
+lawful Null = null_is_lawful
+lawful Dup = dup_is_lawful
+lawful (Skip bytes) = skip_is_lawful bytes

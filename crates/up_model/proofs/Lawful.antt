@@ -1,0 +1,82 @@
+-- What every kind keeps, and how a kind comes to keep it.
+use Rattle.std.proofs.Common.{◌≡◌, ℕ, ◌≤◌, ℤ, List, [], ◌++◌, All, Option, Some, None, true, refl, sym, subst}
+use Rattle.std.specs.Prelude.{MatchOption}
+use Rattle.up_base.specs.Lists.{IsPrefix}
+use Rattle.up_model.proofs.Packetwise.{passed-append, summed-grows, work_counts, KeepsLegal, passed_is_legal}
+use Rattle.up_model.specs.KindMeaning.{KindMeaning, Setting, admits}
+use Rattle.up_model.specs.Kinds.{IsWithinBounds, meaning_of, setting_of, share_of, module_kind}
+use Rattle.up_model.specs.OptionValues.{IsSet}
+use Rattle.up_model.specs.Packet.{Flow, IsLegal}
+use Rattle.up_model.specs.Packetwise.{Step, packetwise, passed}
+use Rattle.up_model.specs.Tallies.{IsAtMost, nothing}
+use Rattle.up_model.specs.Work.{Counts}
+use Rattle.up_model.specs.declared.kind.Kind.{Kind}
+use Rattle.up_model.specs.declared.limits.TheConstants.{MAX_PID}
+use Rattle.up_model.specs.declared.opt.Opt.{Opt}
+
+-- nothing comes of nothing, what is settled stays, its sums grow and count the packets, and legal packets give legal ones
+pub record KeepsFlows (meaning : KindMeaning) : Type 0 where
+  pub settles_nothing : meaning.settled [] ≡ []
+  pub settles_no_sums : meaning.settled_tally [] ≡ nothing
+  pub owes_nothing : meaning.output [] ≡ []
+  pub owes_no_sums : meaning.tally [] ≡ nothing
+  pub longer : (taken more : Flow) → IsPrefix (meaning.settled taken) (meaning.settled (taken ++ more))
+  pub whole : (taken more : Flow) → IsPrefix (meaning.settled taken) (meaning.output (taken ++ more))
+  pub sums_longer : (taken more : Flow) → IsAtMost (meaning.settled_tally taken) (meaning.settled_tally (taken ++ more))
+  pub sums_whole : (taken more : Flow) → IsAtMost (meaning.settled_tally taken) (meaning.tally (taken ++ more))
+  pub counts_settled : (taken : Flow) → Counts (record { flow = meaning.settled taken; tally = meaning.settled_tally taken }) taken
+  pub counts_whole : (taken : Flow) → Counts (record { flow = meaning.output taken; tally = meaning.tally taken }) taken
+  pub legal : (taken : Flow) → All IsLegal taken → All IsLegal (meaning.output taken)
+
+-- an option lies within its own bounds, and a value within them is set in it alone
+pub record KeepsOptions (kind : Kind) : Type 0 where
+  pub admitted : (option : Opt) (setting : Setting) → IsWithinBounds kind → setting_of kind option ≡ Some setting → admits setting setting.value ≡ true
+  pub set : (option : Opt) (setting : Setting) (value : ℤ) → setting_of kind option ≡ Some setting → admits setting value ≡ true
+      → IsSet option value kind (setting.set value)
+
+-- a share grows with the output and is legal where that is, and a kind that stands in is within its bounds
+pub record KeepsShares (kind : Kind) : Type 0 where
+  pub longer : (select : Option ℕ) (front more : Flow) → IsPrefix (share_of kind select front) (share_of kind select (front ++ more))
+  pub legal : (select : Option ℕ) (flow : Flow) → All IsLegal flow → All IsLegal (share_of kind select flow)
+  pub within : (numbers : List ℕ) → IsWithinBounds kind → All (λ number. number ≤ MAX_PID) numbers → IsWithinBounds (module_kind numbers kind)
+
+pub record IsLawful (kind : Kind) : Type 0 where
+  pub flows : IsWithinBounds kind → KeepsFlows (meaning_of kind)
+  pub options : KeepsOptions kind
+  pub shares : KeepsShares kind
+
+-- a kind that looks at each packet by itself
+pub by_packets : (IsWithin : Type 0) (step : Step) (setting : Opt → Option Setting) → KeepsLegal step → KeepsFlows (packetwise IsWithin step setting)
+by_packets IsWithin step setting keeps = record {
+  settles_nothing = refl;
+  settles_no_sums = refl;
+  owes_nothing = refl;
+  owes_no_sums = refl;
+  longer = λ taken more. (passed step more, passed-append step taken more);
+  whole = λ taken more. (passed step more, passed-append step taken more);
+  sums_longer = summed-grows step;
+  sums_whole = summed-grows step;
+  counts_settled = work_counts step;
+  counts_whole = work_counts step;
+  legal = passed_is_legal step keeps;
+}
+
+-- nothing is no setting
+pub not_some : {X : Type 0} (x : X) → None ≡ Some x → ⊥
+not_some {X} x is = subst (λ (option : Option X). MatchOption option (Unit {0}) (λ there. ⊥)) is tt
+
+-- a kind without options
+pub no_options_kept : (kind : Kind) → ((option : Opt) → setting_of kind option ≡ None) → KeepsOptions kind
+no_options_kept kind none = record {
+  admitted = λ option setting within is. absurd (not_some setting (rw (none option) at is));
+  set = λ option setting value is admitted. absurd (not_some setting (rw (none option) at is));
+}
+
+-- a kind whose consumers take its whole output, and whose module has its own kind
+pub whole_shares : (kind : Kind) → ((select : Option ℕ) (flow : Flow) → share_of kind select flow ≡ flow)
+    → ((numbers : List ℕ) → module_kind numbers kind ≡ kind) → KeepsShares kind
+whole_shares kind whole own = record {
+  longer = λ select front more. rw (whole select front, whole select (front ++ more)) (more, refl);
+  legal = λ select flow legal. rw (whole select flow) legal;
+  within = λ numbers within pids. rw (own numbers) within;
+}

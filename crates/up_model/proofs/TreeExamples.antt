@@ -1,0 +1,38 @@
+-- Worked examples of what the pipes of a tree put out and count, computed.
+use Rattle.std.proofs.Common.{◌≡◌, ℕ, [], ◌∷◌, Option, Some, None, map, refl}
+use Rattle.std.specs.Prelude.{codes}
+use Rattle.up_model.proofs.ExampleChain.{pipe}
+use Rattle.up_model.proofs.ExampleTree.{tree, given, archive, tails, other}
+use Rattle.up_model.specs.Meaning.{flow_at, selected, tally_at, sink_bytes}
+use Rattle.up_model.specs.Packet.{plain}
+use Rattle.up_model.specs.declared.kind.Kind.TheVariants.{Idem}
+use Rattle.up_model.specs.declared.pipe.Pipe.{Pipe}
+
+-- both consumers of the `dup` take its whole flow, one of them by a `skip`
+pub both_branches : (sink_bytes tree given archive ≡ codes "abcdefghij") × (sink_bytes tree given tails ≡ codes "dh")
+both_branches = (refl, refl)
+
+-- the second source feeds its own sink alone
+pub second_source : sink_bytes tree given other ≡ codes "xy"
+second_source = refl
+
+-- the `dup` puts three packets out, each counted once
+pub sums_of_dup : tally_at tree given 4 ≡ record { taken = 3; put = 3; dropped = 0; cut = 0; gained = 0; lost = 0 }
+sums_of_dup = refl
+
+pub sums_of_skip : tally_at tree given 5 ≡ record { taken = 3; put = 2; dropped = 1; cut = 8; gained = 0; lost = 0 }
+sums_of_skip = refl
+
+-- pipes that take each other's output put nothing out, nor does one whose input isn't there
+pub no_source :
+    (flow_at (pipe (codes "a") (Some 1) Idem ∷ pipe (codes "b") (Some 0) Idem ∷ []) given 0 ≡ [])
+    × (flow_at (pipe (codes "a") (Some 9) Idem ∷ []) given 0 ≡ [])
+no_source = (refl, refl)
+
+-- a pipe that selects a number of the output at place 1
+abbrev selecting : Option ℕ → Option ℕ → Pipe
+selecting input number = record (pipe (codes "pid") input Idem) { select = number }
+
+-- the numbers that the consumers of a place select, in the order of the file; others' numbers aren't among them
+pub numbers : selected (selecting (Some 1) (Some 5) ∷ selecting (Some 0) (Some 6) ∷ selecting (Some 1) None ∷ selecting (Some 1) (Some 7) ∷ selecting None (Some 8) ∷ []) 1 ≡ 5 ∷ 7 ∷ []
+numbers = refl

@@ -1,0 +1,21 @@
+-- What a pipe has put out and counted.
+use Rattle.std.specs.Prelude.{◌≡◌, ◌+◌, [], length}
+use Rattle.up_model.specs.Packet.{Flow, joined}
+use Rattle.up_model.specs.Tallies.{nothing}
+use Rattle.up_model.specs.declared.tally.Tally.{Tally}
+
+pub record Work : Type 0 where
+  pub flow : Flow
+  pub tally : Tally
+
+abbrev pub no_work : Work
+no_work = record { flow = []; tally = nothing }
+
+-- the sums are those of so many packets taken, and of what was put out
+pub record Counts (work : Work) (taken : Flow) : Type 0 where
+  pub packets_taken : work.tally.taken ≡ length taken
+  pub packets_put : work.tally.put ≡ length work.flow
+
+-- the bytes that weren't put out were cut
+abbrev pub CutsTheRest : Work → Flow → Type 0
+CutsTheRest work taken = work.tally.cut + length (joined work.flow) ≡ length (joined taken)
