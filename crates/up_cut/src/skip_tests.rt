@@ -1,7 +1,4 @@
-ghost use Rattle.std.specs.Prelude.{◌≡◌, length, IfOk};
-
 use crate::Skip;
-use std::alloc::Global;
 use std::process::Abort;
 use std::test::Fail;
 use up_model::{Opt, Tally};
@@ -75,24 +72,21 @@ fn skip_drops_short_packets_and_takes_the_first_bytes_of_others(rt: HostRuntime)
     }
 }
 
-/// The bytes of the greatest packet, all 7 but the last, which is 8.
-fn greatest(alloc: Global) -> Result<Vec<u8>, Fail>
-    ensures { IfOk result (λ bytes. length bytes.items ≡ 1048576) }
-{
-    let mut bytes = vec![in alloc; 7; 1_048_576]?;
-    bytes[1_048_575] = 8;
-    Ok(bytes)
+/// All bytes but the last.
+fn all_but_last<'a>(rt: &impl Abort, bytes: &'a [u8]) -> &'a [u8] {
+    assert!(rt; !bytes.is_empty());
+    &bytes[..bytes.len() - 1]
 }
 
 #[test]
 fn the_greatest_packet_is_cut_to_its_last_byte_and_to_none(rt: HostRuntime) -> Result<(), Fail> {
     let alloc = rt.alloc();
-    let greatest = greatest(alloc)?;
-    let taken = [&greatest[..1_048_575], greatest.as_slice()];
+    let greatest = vec![in alloc; 7; 1_048_576]?;
+    let taken = [all_but_last(&rt, &greatest), greatest.as_slice()];
     let last_byte = Trial {
         set: &[(Opt::Offset, 1_048_575)],
         taken: &taken,
-        put: &[b"", &[8]],
+        put: &[b"", &[7]],
         sums: Tally {
             taken: 2,
             put: 2,
