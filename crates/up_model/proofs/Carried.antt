@@ -10,7 +10,7 @@ use Rattle.up_model.specs.Packet.{Flow, IsLegal}
 use Rattle.up_model.specs.declared.form.SourceForm.{SourceForm}
 use Rattle.up_model.specs.declared.form.SourceForm.TheVariants.{Raw}
 use Rattle.up_model.specs.declared.kind.Kind.{Kind}
-use Rattle.up_model.specs.declared.kind.Kind.TheVariants.{Source, Sink, Idem, Null, Dup, Skip}
+use Rattle.up_model.specs.declared.kind.Kind.TheVariants.{Source}
 
 packets_are_legal : (form : SourceForm) (bytes : List ℕ) → IsSourceForm form → All IsLegal (packets_of form bytes)
 packets_are_legal (Raw block) bytes form = pieces_are_legal block bytes ((length bytes + block - 1) / block) form.1
@@ -24,8 +24,4 @@ carried_are_legal (Source path form limit) bytes within = by_test (nat_lt limit 
     by_test : (long : Bool) → All IsLegal (if long then whole_packets_of form (take limit bytes) else packets_of form bytes)
     by_test true = whole_packets_are_legal form (take limit bytes) within.1
     by_test false = packets_are_legal form bytes within.1
-carried_are_legal (Sink path form) bytes within = All-nil IsLegal
-carried_are_legal Idem bytes within = All-nil IsLegal
-carried_are_legal Null bytes within = All-nil IsLegal
-carried_are_legal Dup bytes within = All-nil IsLegal
-carried_are_legal (Skip count) bytes within = All-nil IsLegal
+carried_are_legal kind bytes within = All-nil IsLegal
