@@ -1,12 +1,12 @@
 -- What stores keep over calls that follow each other.
-use Rattle.std.proofs.Common.{ℕ, ◌∙◌, refl, arith}
-use Rattle.up_shape.specs.Stores.{Stays}
+use Rattle.std.proofs.Common.{◌∙◌, refl, arith}
+use Rattle.up_shape.specs.Stores.{StoreState, Stays}
 
-module _ {S F : Type 0} (family : S → F) (kept drawn : S → ℕ) where
-  pub Stays-refl : (s : S) → Stays family kept drawn s s
+module _ {F : Type 0} where
+  pub Stays-refl : (s : StoreState F) → Stays s s
   Stays-refl s = record { same = refl; few = omega arith; more = omega arith }
 
-  pub Stays-trans : (a b c : S) → Stays family kept drawn a b → Stays family kept drawn b c → Stays family kept drawn a c
+  pub Stays-trans : (a b c : StoreState F) → Stays a b → Stays b c → Stays a c
   Stays-trans a b c one two = record {
     same = two.same ∙ one.same;
     few = omega (arith, one.few, two.few);

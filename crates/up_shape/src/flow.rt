@@ -12,8 +12,8 @@ use up_base::{ItemList, NoMemory};
 
 /// Gives up all packets.
 pub fn give_up_all<P: LocalPacket>(mut packets: ItemList<P>, s: &mut P::Store)
-    requires family { All (λ p. P.fits p (P.Store.family s.old)) packets }
-    ensures store { Stays P.Store.family P.Store.kept P.Store.drawn s.old s.new }
+    requires family { All (λ p. P.fits p (P.Store.state s.old).family) packets }
+    ensures store { Stays (P.Store.state s.old) (P.Store.state s.new) }
 {
     while let Some(p) = packets.next() {
         p.give_up(s);
@@ -30,8 +30,8 @@ pub fn feed_all<P: LocalPacket, M: Module<P>>(
     s: &mut P::Store,
 ) -> Result<(), NoMemory>
     requires legal { All (λ p. IsLegal (P.plain p)) flow }
-    requires packets { All (λ p. P.fits p (P.Store.family s.old)) flow }
-    requires family { AreOf P.fits (M.agrees m.old) out.old.packets (P.Store.family s.old) }
+    requires packets { All (λ p. P.fits p (P.Store.state s.old).family) flow }
+    requires family { AreOf P.fits (M.agrees m.old) out.old.packets (P.Store.state s.old).family }
     ensures stands { (fed : Flow) → M.stands m.old fed
         → OnOk result (M.stands m.new (fed ++ map P.plain flow)) }
     ensures grew { (fed : Flow) → M.stands m.old fed
@@ -42,8 +42,8 @@ pub fn feed_all<P: LocalPacket, M: Module<P>>(
         (settled_work (M.kind m.old) (fed ++ map P.plain flow))) }
     ensures used { OnErr result (M.stands m.new [] → ⊥) }
     ensures kind { M.kind m.new ≡ M.kind m.old }
-    ensures family { AreOf P.fits (M.agrees m.new) out.new.packets (P.Store.family s.old) }
-    ensures store { Stays P.Store.family P.Store.kept P.Store.drawn s.old s.new }
+    ensures family { AreOf P.fits (M.agrees m.new) out.new.packets (P.Store.state s.old).family }
+    ensures store { Stays (P.Store.state s.old) (P.Store.state s.new) }
 {
     while let Some(p) = flow.next() {
         match m.feed(p, out, s) {
@@ -66,7 +66,7 @@ pub fn feed_bytes<P: LocalPacket, M: Module<P>>(
     s: &mut P::Store,
 ) -> Result<(), NoMemory>
     requires size { length bytes.now ≤ MAX_PACKET }
-    requires family { AreOf P.fits (M.agrees m.old) out.old.packets (P.Store.family s.old) }
+    requires family { AreOf P.fits (M.agrees m.old) out.old.packets (P.Store.state s.old).family }
     ensures stands { (fed : Flow) → M.stands m.old fed
         → OnOk result (M.stands m.new (fed ++ plain bytes.now ∷ [])) }
     ensures grew { (fed : Flow) → M.stands m.old fed
@@ -76,8 +76,8 @@ pub fn feed_bytes<P: LocalPacket, M: Module<P>>(
         → OnErr result (GrewInPart P.plain out.old out.new (settled_work (M.kind m.old) fed)
         (settled_work (M.kind m.old) (fed ++ plain bytes.now ∷ []))) }
     ensures kind { M.kind m.new ≡ M.kind m.old }
-    ensures family { AreOf P.fits (M.agrees m.new) out.new.packets (P.Store.family s.old) }
-    ensures store { Stays P.Store.family P.Store.kept P.Store.drawn s.old s.new }
+    ensures family { AreOf P.fits (M.agrees m.new) out.new.packets (P.Store.state s.old).family }
+    ensures store { Stays (P.Store.state s.old) (P.Store.state s.new) }
 {
     match P::fresh(bytes, s) {
         Ok(p) => m.feed(p, out, s),
@@ -95,14 +95,14 @@ pub fn run_flow<P: LocalPacket, M: Module<P>>(
 ) -> Result<(), NoMemory>
     requires fresh { M.stands m [] }
     requires legal { All (λ p. IsLegal (P.plain p)) flow }
-    requires packets { All (λ p. P.fits p (P.Store.family s.old)) flow }
-    requires family { All (λ p. P.fits p (P.Store.family s.old)) out.old.packets }
+    requires packets { All (λ p. P.fits p (P.Store.state s.old).family) flow }
+    requires family { All (λ p. P.fits p (P.Store.state s.old).family) out.old.packets }
     ensures grew { OnOk result (Grew P.plain out.old out.new
         no_work (work_of (M.kind m) (map P.plain flow))) }
     ensures in_part { OnErr result (GrewInPart P.plain out.old out.new
         no_work (work_of (M.kind m) (map P.plain flow))) }
-    ensures family { All (λ p. P.fits p (P.Store.family s.old)) out.new.packets }
-    ensures store { Stays P.Store.family P.Store.kept P.Store.drawn s.old s.new }
+    ensures family { All (λ p. P.fits p (P.Store.state s.old).family) out.new.packets }
+    ensures store { Stays (P.Store.state s.old) (P.Store.state s.new) }
 {
     match feed_all(&mut m, flow, out, s) {
         Ok(()) => m.finish(out, s),

@@ -46,9 +46,9 @@ pub trait LocalPacket: Sized {
     fn room(size: u32, s: &mut Self::Store) -> Result<Self::Room, NoMemory>
         requires { (0 < size) × (size ≤ MAX_PACKET) }
         ensures size { IfOk result (λ r. length (content r) ≡ size) }
-        ensures family { IfOk result (λ r. room_fits r (Self.Store.family s.old)) }
-        ensures drawn { OnOk result (Self.Store.drawn s.old < Self.Store.drawn s.new) }
-        ensures store { Stays Self.Store.family Self.Store.kept Self.Store.drawn s.old s.new };
+        ensures family { IfOk result (λ r. room_fits r (Self.Store.state s.old).family) }
+        ensures drawn { OnOk result ((Self.Store.state s.old).drawn < (Self.Store.state s.new).drawn) }
+        ensures store { Stays (Self.Store.state s.old) (Self.Store.state s.new) };
 
     /// The bytes of the room, to be written.
     fn room_bytes(r: &mut Self::Room) -> &mut [u8]
@@ -59,24 +59,24 @@ pub trait LocalPacket: Sized {
     /// A packet of the first bytes of the room, without attributes.
     fn of_room(r: Self::Room, n: u32, s: &mut Self::Store) -> Result<Self, NoRoom<Self::Room>>
         requires size { (0 < n) × (n ≤ length (content r)) }
-        requires family { room_fits r (Self.Store.family s.old) }
+        requires family { room_fits r (Self.Store.state s.old).family }
         ensures plain { IfOk result (λ p. plain p ≡ bare (take n (content r))) }
-        ensures family { IfOk result (λ p. fits p (Self.Store.family s.old)) }
+        ensures family { IfOk result (λ p. fits p (Self.Store.state s.old).family) }
         ensures back { IfErr result (λ refused. refused.back ≡ r) }
-        ensures store { Stays Self.Store.family Self.Store.kept Self.Store.drawn s.old s.new };
+        ensures store { Stays (Self.Store.state s.old) (Self.Store.state s.new) };
 
     fn give_room(r: Self::Room, s: &mut Self::Store)
-        requires family { room_fits r (Self.Store.family s.old) }
-        ensures store { Stays Self.Store.family Self.Store.kept Self.Store.drawn s.old s.new };
+        requires family { room_fits r (Self.Store.state s.old).family }
+        ensures store { Stays (Self.Store.state s.old) (Self.Store.state s.new) };
 
     /// A packet of these bytes, without attributes.
     fn fresh(bytes: &[u8], s: &mut Self::Store) -> Result<Self, NoMemory>
         requires { length bytes.now ≤ MAX_PACKET }
         ensures plain { IfOk result (λ p. plain p ≡ bare bytes.now) }
-        ensures family { IfOk result (λ p. fits p (Self.Store.family s.old)) }
+        ensures family { IfOk result (λ p. fits p (Self.Store.state s.old).family) }
         ensures drawn { OnOk result (0 < length bytes.now
-            → Self.Store.drawn s.old < Self.Store.drawn s.new) }
-        ensures store { Stays Self.Store.family Self.Store.kept Self.Store.drawn s.old s.new };
+            → (Self.Store.state s.old).drawn < (Self.Store.state s.new).drawn) }
+        ensures store { Stays (Self.Store.state s.old) (Self.Store.state s.new) };
 
     fn size(&self) -> u32
         ensures { result ≡ length (plain self.now).bytes };
@@ -128,17 +128,17 @@ pub trait LocalPacket: Sized {
 
     /// A second packet of the same attributes and bytes. A call on one leaves the other.
     fn dup(&mut self, s: &mut Self::Store) -> Result<Self, NoMemory>
-        requires family { fits self.old (Self.Store.family s.old) }
+        requires family { fits self.old (Self.Store.state s.old).family }
         ensures plain { IfOk result (λ p. plain p ≡ plain self.old) }
         ensures same { plain self.new ≡ plain self.old }
-        ensures family { IfOk result (λ p. fits p (Self.Store.family s.old)) }
-        ensures stays { fits self.new (Self.Store.family s.old) }
-        ensures store { Stays Self.Store.family Self.Store.kept Self.Store.drawn s.old s.new };
+        ensures family { IfOk result (λ p. fits p (Self.Store.state s.old).family) }
+        ensures stays { fits self.new (Self.Store.state s.old).family }
+        ensures store { Stays (Self.Store.state s.old) (Self.Store.state s.new) };
 
     /// A packet of the first bytes with the same attributes. These bytes leave this packet.
     fn front(&mut self, n: u32, s: &mut Self::Store) -> Result<Self, NoMemory>
         requires size { n ≤ length (plain self.old).bytes }
-        requires family { fits self.old (Self.Store.family s.old) }
+        requires family { fits self.old (Self.Store.state s.old).family }
         ensures front { IfOk result (λ p. plain p ≡ record (plain self.old) {
           bytes = take n (plain self.old).bytes;
         }) }
@@ -146,57 +146,57 @@ pub trait LocalPacket: Sized {
           bytes = drop n (plain self.old).bytes;
         }) }
         ensures unchanged { OnErr result (plain self.new ≡ plain self.old) }
-        ensures family { IfOk result (λ p. fits p (Self.Store.family s.old)) }
-        ensures stays { fits self.new (Self.Store.family s.old) }
-        ensures store { Stays Self.Store.family Self.Store.kept Self.Store.drawn s.old s.new };
+        ensures family { IfOk result (λ p. fits p (Self.Store.state s.old).family) }
+        ensures stays { fits self.new (Self.Store.state s.old).family }
+        ensures store { Stays (Self.Store.state s.old) (Self.Store.state s.new) };
 
     /// Gives up the first bytes.
     fn drop_front(&mut self, n: u32, s: &mut Self::Store)
         requires size { n ≤ length (plain self.old).bytes }
-        requires family { fits self.old (Self.Store.family s.old) }
+        requires family { fits self.old (Self.Store.state s.old).family }
         ensures rest { plain self.new ≡ record (plain self.old) {
           bytes = drop n (plain self.old).bytes;
         } }
-        ensures stays { fits self.new (Self.Store.family s.old) }
-        ensures store { Stays Self.Store.family Self.Store.kept Self.Store.drawn s.old s.new };
+        ensures stays { fits self.new (Self.Store.state s.old).family }
+        ensures store { Stays (Self.Store.state s.old) (Self.Store.state s.new) };
 
     /// Gives up all but the first bytes.
     fn keep_front(&mut self, n: u32, s: &mut Self::Store)
         requires size { n ≤ length (plain self.old).bytes }
-        requires family { fits self.old (Self.Store.family s.old) }
+        requires family { fits self.old (Self.Store.state s.old).family }
         ensures front { plain self.new ≡ record (plain self.old) {
           bytes = take n (plain self.old).bytes;
         } }
-        ensures stays { fits self.new (Self.Store.family s.old) }
-        ensures store { Stays Self.Store.family Self.Store.kept Self.Store.drawn s.old s.new };
+        ensures stays { fits self.new (Self.Store.state s.old).family }
+        ensures store { Stays (Self.Store.state s.old) (Self.Store.state s.new) };
 
     /// Adds the bytes of another packet at the end, and gives up its attributes.
     fn add(&mut self, other: Self, s: &mut Self::Store) -> Result<(), NoRoom<Self>>
         requires size { length (plain self.old).bytes + length (plain other).bytes ≤ MAX_JOINED }
-        requires family { fits self.old (Self.Store.family s.old)
-            × fits other (Self.Store.family s.old) }
+        requires family { fits self.old (Self.Store.state s.old).family
+            × fits other (Self.Store.state s.old).family }
         ensures added { OnOk result (plain self.new ≡ record (plain self.old) {
           bytes = (plain self.old).bytes ++ (plain other).bytes;
         }) }
         ensures unchanged { OnErr result (plain self.new ≡ plain self.old) }
         ensures back { IfErr result (λ refused. refused.back ≡ other) }
-        ensures stays { fits self.new (Self.Store.family s.old) }
-        ensures store { Stays Self.Store.family Self.Store.kept Self.Store.drawn s.old s.new };
+        ensures stays { fits self.new (Self.Store.state s.old).family }
+        ensures store { Stays (Self.Store.state s.old) (Self.Store.state s.new) };
 
     /// Writes these bytes over those from the place `at` on.
     fn set_bytes(&mut self, at: u32, bytes: &[u8], s: &mut Self::Store) -> Result<(), NoMemory>
         requires size { at + length bytes.now ≤ length (plain self.old).bytes }
-        requires family { fits self.old (Self.Store.family s.old) }
+        requires family { fits self.old (Self.Store.state s.old).family }
         ensures set { OnOk result (plain self.new ≡ record (plain self.old) {
           bytes = written_at at bytes.now (plain self.old).bytes;
         }) }
         ensures unchanged { OnErr result (plain self.new ≡ plain self.old) }
-        ensures stays { fits self.new (Self.Store.family s.old) }
-        ensures store { Stays Self.Store.family Self.Store.kept Self.Store.drawn s.old s.new };
+        ensures stays { fits self.new (Self.Store.state s.old).family }
+        ensures store { Stays (Self.Store.state s.old) (Self.Store.state s.new) };
 
     fn give_up(self, s: &mut Self::Store)
-        requires family { fits self (Self.Store.family s.old) }
-        ensures store { Stays Self.Store.family Self.Store.kept Self.Store.drawn s.old s.new };
+        requires family { fits self (Self.Store.state s.old).family }
+        ensures store { Stays (Self.Store.state s.old) (Self.Store.state s.new) };
 
     /// What is written to a room is then its content, and its family stays.
     ghost refills: { (r : Self.Room) (bytes : List ℕ) → length bytes ≡ length (content r)

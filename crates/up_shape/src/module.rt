@@ -25,8 +25,8 @@ pub trait Module<P: LocalPacket>: Sized {
     /// packet is given up, and only `give_up` may follow.
     fn feed(&mut self, p: P, out: &mut Outbox<P>, s: &mut P::Store) -> Result<(), NoMemory>
         requires legal { IsLegal (P.plain p) }
-        requires packet { P.fits p (P.Store.family s.old) }
-        requires family { AreOf P.fits (agrees self.old) out.old.packets (P.Store.family s.old) }
+        requires packet { P.fits p (P.Store.state s.old).family }
+        requires family { AreOf P.fits (agrees self.old) out.old.packets (P.Store.state s.old).family }
         ensures stands { (fed : Flow) → stands self.old fed
             → OnOk result (stands self.new (fed ++ P.plain p ∷ [])) }
         ensures grew { (fed : Flow) → stands self.old fed
@@ -39,25 +39,25 @@ pub trait Module<P: LocalPacket>: Sized {
             (settled_work (kind self.old) (fed ++ P.plain p ∷ []))) }
         ensures used { OnErr result (stands self.new [] → ⊥) }
         ensures kind { kind self.new ≡ kind self.old }
-        ensures family { AreOf P.fits (agrees self.new) out.new.packets (P.Store.family s.old) }
-        ensures store { Stays P.Store.family P.Store.kept P.Store.drawn s.old s.new };
+        ensures family { AreOf P.fits (agrees self.new) out.new.packets (P.Store.state s.old).family }
+        ensures store { Stays (P.Store.state s.old) (P.Store.state s.new) };
 
     /// The whole end of the flow: puts out what is owed, and gives up all else.
     fn finish(self, out: &mut Outbox<P>, s: &mut P::Store) -> Result<(), NoMemory>
-        requires family { AreOf P.fits (agrees self) out.old.packets (P.Store.family s.old) }
+        requires family { AreOf P.fits (agrees self) out.old.packets (P.Store.state s.old).family }
         ensures grew { (fed : Flow) → stands self fed
             → OnOk result (Grew P.plain out.old out.new
             (settled_work (kind self) fed) (work_of (kind self) fed)) }
         ensures in_part { (fed : Flow) → stands self fed
             → OnErr result (GrewInPart P.plain out.old out.new
             (settled_work (kind self) fed) (work_of (kind self) fed)) }
-        ensures family { All (λ p. P.fits p (P.Store.family s.old)) out.new.packets }
-        ensures store { Stays P.Store.family P.Store.kept P.Store.drawn s.old s.new };
+        ensures family { All (λ p. P.fits p (P.Store.state s.old).family) out.new.packets }
+        ensures store { Stays (P.Store.state s.old) (P.Store.state s.new) };
 
     /// The broken end of the flow: puts out nothing, and gives up what it holds.
     fn give_up(self, s: &mut P::Store)
-        requires family { agrees self (P.Store.family s.old) }
-        ensures store { Stays P.Store.family P.Store.kept P.Store.drawn s.old s.new };
+        requires family { agrees self (P.Store.state s.old).family }
+        ensures store { Stays (P.Store.state s.old) (P.Store.state s.new) };
 
     /// Whether nothing was fed.
     fn fresh(&self) -> bool

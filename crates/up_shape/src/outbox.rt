@@ -98,13 +98,13 @@ impl<P> Outbox<P> {
 
 /// Puts the packet out. Where there is no room it is given up.
 pub fn put_out<P: LocalPacket>(p: P, out: &mut Outbox<P>, s: &mut P::Store) -> Result<(), NoMemory>
-    requires family { P.fits p (P.Store.family s.old) }
+    requires family { P.fits p (P.Store.state s.old).family }
     ensures added { OnOk result (out.new.packets ≡ out.old.packets ++ p ∷ []) }
     ensures unchanged { OnErr result (out.new.packets ≡ out.old.packets) }
     ensures tally { out.new.tally ≡ out.old.tally }
-    ensures family { All (λ q. P.fits q (P.Store.family s.old)) out.old.packets
-        → All (λ q. P.fits q (P.Store.family s.old)) out.new.packets }
-    ensures store { Stays P.Store.family P.Store.kept P.Store.drawn s.old s.new }
+    ensures family { All (λ q. P.fits q (P.Store.state s.old).family) out.old.packets
+        → All (λ q. P.fits q (P.Store.state s.old).family) out.new.packets }
+    ensures store { Stays (P.Store.state s.old) (P.Store.state s.new) }
 {
     match out.put(p) {
         Ok(()) => Ok(()),

@@ -44,10 +44,10 @@ pub trait PacketStep<P: LocalPacket>: Options {
     /// Lets a packet pass, or drops it and gives it up.
     fn pass(&self, p: P, s: &mut P::Store) -> Result<Passed<P>, NoMemory>
         requires legal { IsLegal (P.plain p) }
-        requires family { P.fits p (P.Store.family s.old) }
+        requires family { P.fits p (P.Store.state s.old).family }
         ensures passed { IfOk result (λ r. plain_passed P.plain r ≡ step self.now (P.plain p)) }
-        ensures family { IfOk result (λ r. IfPasses r (λ q. P.fits q (P.Store.family s.old))) }
-        ensures store { Stays P.Store.family P.Store.kept P.Store.drawn s.old s.new };
+        ensures family { IfOk result (λ r. IfPasses r (λ q. P.fits q (P.Store.state s.old).family)) }
+        ensures store { Stays (P.Store.state s.old) (P.Store.state s.new) };
 
     /// That is all that its kind does.
     ghost settles: { (k : Self) (taken : Flow)

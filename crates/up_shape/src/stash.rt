@@ -1,5 +1,5 @@
 ghost use Rattle.std.specs.Prelude.{◌≡◌, ◌≤◌, ◌+◌, ℕ};
-ghost use Rattle.up_shape.specs.Stores.{Stays};
+ghost use Rattle.up_shape.specs.Stores.{StoreState, Stays};
 
 /// The most carriers that a store keeps.
 pub const MAX_KEPT: usize = 64;
@@ -10,33 +10,28 @@ pub trait Stash: Sized {
     /// Plain data by which contracts tell families apart.
     type Family: Drop;
 
-    /// The family, which no call changes.
-    ghost family: { Self → Self.Family };
-
-    /// How many carriers the store keeps. Each call but `join` leaves it at most the greater of two and what it was.
-    ghost kept: { Self → ℕ };
-
-    /// At least how many rooms, and packets of a byte or more, were made with the store. Contracts alone see it.
-    ghost drawn: { Self → ℕ };
+    /// What contracts see of it: its family, which no call changes; how many carriers it keeps, which each call but `join`
+    /// leaves at most the greater of two and what it was; how much was drawn from it, which contracts alone see.
+    ghost state: { Self → StoreState Self.Family };
 
     /// A store of the same family, which keeps nothing and from which nothing was drawn.
     fn split(&mut self) -> Self
-        ensures stays { Stays family kept drawn self.old self.new }
-        ensures family { family result ≡ family self.old }
-        ensures kept { kept result ≡ 0 }
-        ensures drawn { drawn result ≡ 0 };
+        ensures stays { Stays (state self.old) (state self.new) }
+        ensures family { (state result).family ≡ (state self.old).family }
+        ensures kept { (state result).kept ≡ 0 }
+        ensures drawn { (state result).drawn ≡ 0 };
 
     /// Takes in another store of the family.
     fn join(&mut self, other: Self)
-        requires family { family other ≡ family self.old }
-        requires few { kept self.old + kept other ≤ MAX_KEPT }
-        ensures family { family self.new ≡ family self.old }
-        ensures kept { kept self.new ≤ kept self.old + kept other }
-        ensures drawn { drawn self.new ≡ drawn self.old + drawn other };
+        requires family { (state other).family ≡ (state self.old).family }
+        requires few { (state self.old).kept + (state other).kept ≤ MAX_KEPT }
+        ensures family { (state self.new).family ≡ (state self.old).family }
+        ensures kept { (state self.new).kept ≤ (state self.old).kept + (state other).kept }
+        ensures drawn { (state self.new).drawn ≡ (state self.old).drawn + (state other).drawn };
 
     fn kept(&self) -> usize
-        ensures { result ≡ kept self.now };
+        ensures { result ≡ (state self.now).kept };
 
     fn family(&self) -> Self::Family
-        ensures { result ≡ family self.now };
+        ensures { result ≡ (state self.now).family };
 }

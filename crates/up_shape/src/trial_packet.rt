@@ -41,11 +41,7 @@ impl TrialStore {
 impl Stash for TrialStore {
     type Family = ();
 
-    ghost family = { λ _. tt };
-
-    ghost kept = { λ _. 0 };
-
-    ghost drawn = { drawn_within };
+    ghost state = { λ store. record { family = tt; kept = 0; drawn = drawn_within store } };
 
     fn split(&mut self) -> TrialStore {
         TrialStore {

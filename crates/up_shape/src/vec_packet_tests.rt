@@ -61,7 +61,7 @@ pub(crate) fn of_filled<P: LocalPacket>(
 }
 
 pub(crate) fn dup<P: LocalPacket>(rt: &impl Abort, packet: &mut P, s: &mut P::Store) -> P
-    requires { P.fits packet.old (P.Store.family s.old) }
+    requires { P.fits packet.old (P.Store.state s.old).family }
 {
     packet.dup(s).expect(rt, "no memory")
 }
@@ -73,15 +73,15 @@ pub(crate) fn front<P: LocalPacket>(
     count: u32,
     s: &mut P::Store,
 ) -> P
-    requires { P.fits packet.old (P.Store.family s.old) }
+    requires { P.fits packet.old (P.Store.state s.old).family }
 {
     assert!(rt; count <= packet.size());
     packet.front(count, s).expect(rt, "no memory")
 }
 
 pub(crate) fn add<P: LocalPacket>(rt: &impl Abort, packet: &mut P, other: P, s: &mut P::Store)
-    requires packet { P.fits packet.old (P.Store.family s.old) }
-    requires other { P.fits other (P.Store.family s.old) }
+    requires packet { P.fits packet.old (P.Store.state s.old).family }
+    requires other { P.fits other (P.Store.state s.old).family }
 {
     assert!(rt; packet.size() <= MAX_PACKET && other.size() <= MAX_PACKET);
     match packet.add(other, s) {
@@ -101,7 +101,7 @@ pub(crate) fn set_bytes<P: LocalPacket>(
     bytes: &[u8],
     s: &mut P::Store,
 )
-    requires packet { P.fits packet.old (P.Store.family s.old) }
+    requires packet { P.fits packet.old (P.Store.state s.old).family }
     requires size { length bytes.now ≤ MAX_PACKET }
 {
     assert!(rt; at <= packet.size() && bytes.len() as u32 <= packet.size() - at);
@@ -133,7 +133,7 @@ pub(crate) fn drop_front<P: LocalPacket>(
     count: u32,
     s: &mut P::Store,
 )
-    requires { P.fits packet.old (P.Store.family s.old) }
+    requires { P.fits packet.old (P.Store.state s.old).family }
 {
     assert!(rt; count <= packet.size());
     packet.drop_front(count, s);
@@ -145,7 +145,7 @@ pub(crate) fn keep_front<P: LocalPacket>(
     count: u32,
     s: &mut P::Store,
 )
-    requires { P.fits packet.old (P.Store.family s.old) }
+    requires { P.fits packet.old (P.Store.state s.old).family }
 {
     assert!(rt; count <= packet.size());
     packet.keep_front(count, s);
@@ -157,7 +157,7 @@ fn parked<P: Packet>(packet: P) -> P {
 }
 
 fn give_up<P: LocalPacket>(packet: P, s: &mut P::Store)
-    requires { P.fits packet (P.Store.family s.old) }
+    requires { P.fits packet (P.Store.state s.old).family }
 {
     packet.give_up(s);
 }

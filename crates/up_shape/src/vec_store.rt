@@ -40,11 +40,7 @@ impl Stash for VecStore {
 
     type Family = ();
 
-    ghost family = { λ _. tt };
-
-    ghost kept = { λ _. 0 };
-
-    ghost drawn = { drawn_from };
+    ghost state = { λ store. record { family = tt; kept = 0; drawn = drawn_from store } };
 
     fn split(&mut self) -> VecStore {
         VecStore::new(self.alloc)
