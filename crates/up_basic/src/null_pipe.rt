@@ -3,7 +3,7 @@ ghost use Rattle.up_model.specs.Packetwise.{drops};
 ghost use Rattle.up_model.specs.declared.kind.Kind.TheVariants as kinds;
 
 use up_base::NoMemory;
-use up_model::Passed;
+use up_model::Verdict;
 use up_shape::{
     Command, ControlRefused, LocalPacket, Made, Options, PacketStep, Packetwise, Reply,
 };
@@ -35,12 +35,12 @@ impl Made<()> for NullStep {
 impl<P: LocalPacket> PacketStep<P> for NullStep {
     ghost step = { λ _. drops };
 
-    fn pass(&self, p: P, s: &mut P::Store) -> Result<Passed<P>, NoMemory> {
+    fn pass(&self, p: P, s: &mut P::Store) -> Result<Verdict<P>, NoMemory> {
         p.give_up(s);
-        Ok(Passed::Drops)
+        Ok(Verdict::Drops)
     }
 
     ghost settles = { λ _ _. refl };
 
-    ghost owes = { λ _ _. refl };
+    ghost owes_nothing = { λ _ _. refl };
 }

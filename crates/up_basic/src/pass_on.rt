@@ -2,7 +2,7 @@ ghost use Rattle.up_model.specs.Packetwise.{passes_on};
 ghost use Rattle.up_basic.specs.PassOn.{passing_kind, within_bounds, settles, owes_nothing};
 
 use up_base::NoMemory;
-use up_model::Passed;
+use up_model::Verdict;
 use up_shape::{
     Command, ControlRefused, LocalPacket, Made, Options, PacketStep, Packetwise, Reply,
 };
@@ -38,11 +38,11 @@ impl<const DUP: bool> Made<()> for PassOn<DUP> {
 impl<P: LocalPacket, const DUP: bool> PacketStep<P> for PassOn<DUP> {
     ghost step = { λ _. passes_on };
 
-    fn pass(&self, p: P, _s: &mut P::Store) -> Result<Passed<P>, NoMemory> {
-        Ok(Passed::Passes { packet: p, cut: 0 })
+    fn pass(&self, p: P, _s: &mut P::Store) -> Result<Verdict<P>, NoMemory> {
+        Ok(Verdict::Passes { packet: p, cut: 0 })
     }
 
     ghost settles = { λ _. settles DUP };
 
-    ghost owes = { λ _. owes_nothing DUP };
+    ghost owes_nothing = { λ _. owes_nothing DUP };
 }

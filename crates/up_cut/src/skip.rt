@@ -8,7 +8,7 @@ ghost use Rattle.up_shape.specs.Control.{set_to, kind_after};
 ghost use Rattle.up_shape.specs.declared.control.Command.TheVariants.{Set};
 
 use up_base::NoMemory;
-use up_model::{MAX_PACKET, Opt, Passed};
+use up_model::{MAX_PACKET, Opt, Verdict};
 use up_shape::{
     Command, ControlRefused, LocalPacket, Made, Options, PacketStep, Packetwise, Reply,
 };
@@ -65,13 +65,13 @@ impl Made<()> for SkipStep {
 impl<P: LocalPacket> PacketStep<P> for SkipStep {
     ghost step = { λ skip. skip_step skip.bytes };
 
-    fn pass(&self, mut p: P, s: &mut P::Store) -> Result<Passed<P>, NoMemory> {
+    fn pass(&self, mut p: P, s: &mut P::Store) -> Result<Verdict<P>, NoMemory> {
         if p.size() < self.bytes {
             p.give_up(s);
-            return Ok(Passed::Drops);
+            return Ok(Verdict::Drops);
         }
         p.drop_front(self.bytes, s);
-        Ok(Passed::Passes {
+        Ok(Verdict::Passes {
             packet: p,
             cut: u64::from(self.bytes),
         })
@@ -79,5 +79,5 @@ impl<P: LocalPacket> PacketStep<P> for SkipStep {
 
     ghost settles = { λ _ _. refl };
 
-    ghost owes = { λ _ _. refl };
+    ghost owes_nothing = { λ _ _. refl };
 }

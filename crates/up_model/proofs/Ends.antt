@@ -1,15 +1,15 @@
 -- The kinds `source` and `sink` keep the laws.
-use Rattle.std.proofs.Common.{◌≡◌, ℕ, [], ◌++◌, List, refl, arith, length-append}
+use Rattle.std.proofs.Common.{ℕ, [], ◌++◌, List, refl, arith, length-append}
 use Rattle.std.proofs.lemmas.List.Elements.{All-nil}
 use Rattle.up_model.proofs.Lawful.{IsLawful, KeepsFlows, no_options_kept, whole_shares}
-use Rattle.up_model.specs.Ends.{source_meaning, sink_meaning}
+use Rattle.up_model.specs.Ends.{end_meaning}
 use Rattle.up_model.specs.Packet.{Flow, IsLegal}
-use Rattle.up_model.specs.Tallies.{IsAtMost, of_sink}
+use Rattle.up_model.specs.Tallies.{IsAtMost, of_taken}
 use Rattle.up_model.specs.declared.form.SinkForm.{SinkForm}
 use Rattle.up_model.specs.declared.form.SourceForm.{SourceForm}
 use Rattle.up_model.specs.declared.kind.Kind.TheVariants.{Source, Sink}
 
-sums_grow : (taken more : Flow) → IsAtMost (of_sink taken) (of_sink (taken ++ more))
+sums_grow : (taken more : Flow) → IsAtMost (of_taken taken) (of_taken (taken ++ more))
 sums_grow taken more = record {
   taken = omega (arith, length-append taken more);
   put = omega arith;
@@ -19,40 +19,31 @@ sums_grow taken more = record {
   lost = omega arith;
 }
 
+ends_keep : (IsWithin : Type 0) (written : Flow → List ℕ) → KeepsFlows (end_meaning IsWithin written)
+ends_keep IsWithin written = record {
+  settles_nothing = refl;
+  settles_no_sums = refl;
+  owes_nothing = refl;
+  owes_no_sums = refl;
+  longer = λ taken more. ([], refl);
+  whole = λ taken more. ([], refl);
+  sums_longer = sums_grow;
+  sums_whole = sums_grow;
+  counts_settled = λ taken. record { packets_taken = refl; packets_put = refl };
+  counts_whole = λ taken. record { packets_taken = refl; packets_put = refl };
+  legal = λ taken legal. All-nil IsLegal;
+}
+
 pub source_is_lawful : (path : List ℕ) (form : SourceForm) (limit : ℕ) → IsLawful (Source path form limit)
 source_is_lawful path form limit = record {
-  flows = λ within. record {
-    settles_nothing = refl;
-    settles_no_sums = refl;
-    owes_nothing = refl;
-    owes_no_sums = refl;
-    longer = λ taken more. ([], refl);
-    whole = λ taken more. ([], refl);
-    sums_longer = sums_grow;
-    sums_whole = sums_grow;
-    counts_settled = λ taken. record { packets_taken = refl; packets_put = refl };
-    counts_whole = λ taken. record { packets_taken = refl; packets_put = refl };
-    legal = λ taken legal. All-nil IsLegal;
-  };
+  flows = λ within. ends_keep _ _;
   options = no_options_kept (Source path form limit) (λ option. refl);
   shares = whole_shares (Source path form limit) (λ select flow. refl) (λ numbers. refl);
 }
 
 pub sink_is_lawful : (path : List ℕ) (form : SinkForm) → IsLawful (Sink path form)
 sink_is_lawful path form = record {
-  flows = λ within. record {
-    settles_nothing = refl;
-    settles_no_sums = refl;
-    owes_nothing = refl;
-    owes_no_sums = refl;
-    longer = λ taken more. ([], refl);
-    whole = λ taken more. ([], refl);
-    sums_longer = sums_grow;
-    sums_whole = sums_grow;
-    counts_settled = λ taken. record { packets_taken = refl; packets_put = refl };
-    counts_whole = λ taken. record { packets_taken = refl; packets_put = refl };
-    legal = λ taken legal. All-nil IsLegal;
-  };
+  flows = λ within. ends_keep _ _;
   options = no_options_kept (Sink path form) (λ option. refl);
   shares = whole_shares (Sink path form) (λ select flow. refl) (λ numbers. refl);
 }

@@ -2,7 +2,7 @@
 use Rattle.std.proofs.Common.{◌≡◌, [], ◌∷◌, Some, None, refl}
 use Rattle.std.specs.Prelude.{codes}
 use Rattle.up_model.proofs.ExampleChain.{three_pipes, raw_sink, given}
-use Rattle.up_model.specs.Meaning.{flow_at, tally_at, sink_bytes}
+use Rattle.up_model.specs.Meaning.{flow_at, tally_of, sink_bytes}
 use Rattle.up_model.specs.Packet.{plain}
 
 -- the source puts out its flow, the `idem` pipe the same, and the sink nothing
@@ -24,7 +24,7 @@ no_input = refl
 
 -- one packet was put out, passed on, and taken
 pub sums :
-    (tally_at three_pipes given 0 ≡ record { taken = 0; put = 1; dropped = 0; cut = 0; gained = 0; lost = 0 })
-    × (tally_at three_pipes given 1 ≡ record { taken = 1; put = 1; dropped = 0; cut = 0; gained = 0; lost = 0 })
-    × (tally_at three_pipes given 2 ≡ record { taken = 1; put = 0; dropped = 0; cut = 0; gained = 0; lost = 0 })
+    (tally_of three_pipes given 0 ≡ record { taken = 0; put = 1; dropped = 0; cut = 0; gained = 0; lost = 0 })
+    × (tally_of three_pipes given 1 ≡ record { taken = 1; put = 1; dropped = 0; cut = 0; gained = 0; lost = 0 })
+    × (tally_of three_pipes given 2 ≡ record { taken = 1; put = 0; dropped = 0; cut = 0; gained = 0; lost = 0 })
 sums = (refl, refl, refl)

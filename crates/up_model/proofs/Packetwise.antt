@@ -7,8 +7,8 @@ use Rattle.up_model.specs.Packet.{PlainPacket, Flow, IsLegal, joined}
 use Rattle.up_model.specs.Packetwise.{Step, put_of, sums_of, passed, summed, work_by, passes_on, IfPasses}
 use Rattle.up_model.specs.Tallies.{nothing, plus, IsAtMost, of_passed, of_dropped}
 use Rattle.up_model.specs.Work.{Work, Counts, CutsTheRest}
-use Rattle.up_model.specs.declared.passed.Passed.{Passed}
-use Rattle.up_model.specs.declared.passed.Passed.TheVariants.{Passes, Drops}
+use Rattle.up_model.specs.declared.verdict.Verdict.{Verdict}
+use Rattle.up_model.specs.declared.verdict.Verdict.TheVariants.{Passes, Drops}
 use Rattle.up_model.specs.declared.tally.Tally.{Tally}
 
 -- the work with one packet more put out, and these sums more
@@ -86,7 +86,7 @@ module _ (step : Step) (taken : Flow) (packet : PlainPacket) where
 abbrev pub KeepsLegal : Step → Type 0
 KeepsLegal step = (packet : PlainPacket) → IsLegal packet → IfPasses (step packet) IsLegal
 
-put_is_legal : (p : Passed PlainPacket) (rest : Flow) → IfPasses p IsLegal → All IsLegal rest → All IsLegal (cons_option (put_of p) rest)
+put_is_legal : (p : Verdict PlainPacket) (rest : Flow) → IfPasses p IsLegal → All IsLegal rest → All IsLegal (cons_option (put_of p) rest)
 put_is_legal (Passes packet cut) rest legal more = All-cons IsLegal packet rest legal more
 put_is_legal Drops rest legal more = more
 
@@ -97,11 +97,11 @@ passed_is_legal step keeps (packet ∷ taken) legal =
     put_is_legal (step packet) (passed step taken) (keeps packet (All-head IsLegal packet taken legal)) (passed_is_legal step keeps taken (All-tail IsLegal packet taken legal))
 
 -- the sums of one packet count it as taken, and as put out where it is
-counts_taken : (packet : PlainPacket) (p : Passed PlainPacket) → (sums_of packet p).taken ≡ 1
+counts_taken : (packet : PlainPacket) (p : Verdict PlainPacket) → (sums_of packet p).taken ≡ 1
 counts_taken packet (Passes put cut) = refl
 counts_taken packet Drops = refl
 
-counts_put : (packet : PlainPacket) (p : Passed PlainPacket) (rest : Flow) → (sums_of packet p).put + length rest ≡ length (cons_option (put_of p) rest)
+counts_put : (packet : PlainPacket) (p : Verdict PlainPacket) (rest : Flow) → (sums_of packet p).put + length rest ≡ length (cons_option (put_of p) rest)
 counts_put packet (Passes put cut) rest = omega arith
 counts_put packet Drops rest = omega arith
 
@@ -118,11 +118,11 @@ pub work_counts : (step : Step) (taken : Flow) → Counts (work_by step taken) t
 work_counts step taken = record { packets_taken = summed_taken step taken; packets_put = summed_put step taken }
 
 -- what is cut off a packet and what goes on are its bytes
-abbrev pub IsCutOf : PlainPacket → Passed PlainPacket → Type 0
+abbrev pub IsCutOf : PlainPacket → Verdict PlainPacket → Type 0
 IsCutOf packet (Passes put cut) = cut + length put.bytes ≡ length packet.bytes
 IsCutOf packet Drops = Unit {0}
 
-cut_of_next : (packet : PlainPacket) (p : Passed PlainPacket) (sums : Tally) (rest taken : Flow) → IsCutOf packet p
+cut_of_next : (packet : PlainPacket) (p : Verdict PlainPacket) (sums : Tally) (rest taken : Flow) → IsCutOf packet p
     → sums.cut + length (joined rest) ≡ length (joined taken)
     → (plus (sums_of packet p) sums).cut + length (joined (cons_option (put_of p) rest)) ≡ length (joined (packet ∷ taken))
 cut_of_next packet (Passes put cut) sums rest taken is before =

@@ -6,7 +6,7 @@ use Rattle.up_model.specs.Kinds.{settled_work, work_of}
 use Rattle.up_model.specs.Packet.{Flow, plain}
 use Rattle.up_model.specs.Packetwise.{passed}
 use Rattle.up_model.specs.Skip.{skip_step}
-use Rattle.up_model.specs.declared.passed.Passed.TheVariants.{Passes}
+use Rattle.up_model.specs.declared.verdict.Verdict.TheVariants.{Passes}
 use Rattle.up_model.specs.declared.kind.Kind.TheVariants.{Skip}
 
 -- packets of 2, 3 and 4 bytes

@@ -2,7 +2,7 @@
 use Rattle.std.proofs.Common.{◌≡◌, ◌-◌, ◌^◌, [], ◌∷◌, map, refl}
 use Rattle.std.specs.Prelude.{codes}
 use Rattle.up_model.specs.Packet.{plain}
-use Rattle.up_model.specs.Tallies.{plus, added, more, stopped, nothing, of_passed, of_dropped, of_source, of_sink}
+use Rattle.up_model.specs.Tallies.{plus, added, more, stopped, nothing, of_passed, of_dropped, of_source, of_taken}
 
 -- one packet less 3 bytes, and one of 2 bytes that was dropped
 pub one_of_each : plus (of_passed 3) (of_dropped 2) ≡ record { taken = 2; put = 1; dropped = 1; cut = 5; gained = 0; lost = 0 }
@@ -26,5 +26,5 @@ since_the_start = refl
 
 -- a source puts out what it took of nobody, and a sink puts nothing out
 pub ends : (of_source (map plain (codes "ab" ∷ [] ∷ [])) ≡ record { taken = 0; put = 2; dropped = 0; cut = 0; gained = 0; lost = 0 })
-    × (of_sink (map plain (codes "ab" ∷ [] ∷ [])) ≡ record { taken = 2; put = 0; dropped = 0; cut = 0; gained = 0; lost = 0 })
+    × (of_taken (map plain (codes "ab" ∷ [] ∷ [])) ≡ record { taken = 2; put = 0; dropped = 0; cut = 0; gained = 0; lost = 0 })
 ends = (refl, refl)

@@ -3,7 +3,7 @@ use Rattle.std.proofs.Common.{◌≡◌, ℕ, [], ◌∷◌, Option, Some, None,
 use Rattle.std.specs.Prelude.{codes}
 use Rattle.up_model.proofs.ExampleChain.{pipe}
 use Rattle.up_model.proofs.ExampleTree.{tree, given, archive, tails, other}
-use Rattle.up_model.specs.Meaning.{flow_at, selected, tally_at, sink_bytes}
+use Rattle.up_model.specs.Meaning.{flow_at, selected, tally_of, sink_bytes}
 use Rattle.up_model.specs.Packet.{plain}
 use Rattle.up_model.specs.declared.kind.Kind.TheVariants.{Idem}
 use Rattle.up_model.specs.declared.pipe.Pipe.{Pipe}
@@ -17,10 +17,10 @@ pub second_source : sink_bytes tree given other ≡ codes "xy"
 second_source = refl
 
 -- the `dup` puts three packets out, each counted once
-pub sums_of_dup : tally_at tree given 4 ≡ record { taken = 3; put = 3; dropped = 0; cut = 0; gained = 0; lost = 0 }
+pub sums_of_dup : tally_of tree given 4 ≡ record { taken = 3; put = 3; dropped = 0; cut = 0; gained = 0; lost = 0 }
 sums_of_dup = refl
 
-pub sums_of_skip : tally_at tree given 5 ≡ record { taken = 3; put = 2; dropped = 1; cut = 8; gained = 0; lost = 0 }
+pub sums_of_skip : tally_of tree given 5 ≡ record { taken = 3; put = 2; dropped = 1; cut = 8; gained = 0; lost = 0 }
 sums_of_skip = refl
 
 -- pipes that take each other's output put nothing out, nor does one whose input isn't there

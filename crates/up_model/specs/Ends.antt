@@ -5,7 +5,7 @@ use Rattle.std.specs.List.{list_any}
 use Rattle.std.specs.Str.{is_utf8}
 use Rattle.up_model.specs.KindMeaning.{KindMeaning, no_options, whole_share, no_stand_in, writes_nothing}
 use Rattle.up_model.specs.Packet.{Flow, joined}
-use Rattle.up_model.specs.Tallies.{of_sink}
+use Rattle.up_model.specs.Tallies.{of_taken}
 use Rattle.up_model.specs.declared.form.SinkForm.{SinkForm}
 use Rattle.up_model.specs.declared.form.SinkForm.TheVariants as sink_forms
 use Rattle.up_model.specs.declared.form.SourceForm.{SourceForm}
@@ -32,28 +32,23 @@ IsSinkForm sink_forms.Raw = Unit {0}
 abbrev pub written_by : SinkForm → Flow → List ℕ
 written_by sink_forms.Raw taken = joined taken
 
-abbrev pub source_meaning : List ℕ → SourceForm → ℕ → KindMeaning
-source_meaning path form limit = record {
-  IsWithin = IsPath path × IsSourceForm form × (limit ≤ MAX_LIMIT);
+-- a kind at an end of a graph, by what its fields keep and the bytes that it writes
+abbrev pub end_meaning : Type 0 → (Flow → List ℕ) → KindMeaning
+end_meaning IsWithin written = record {
+  IsWithin = IsWithin;
   output = λ taken. [];
   settled = λ taken. [];
-  tally = of_sink;
-  settled_tally = of_sink;
+  tally = of_taken;
+  settled_tally = of_taken;
   setting = no_options;
   share = whole_share;
   stand_in = no_stand_in;
-  written = writes_nothing;
+  written = written;
 }
 
+abbrev pub source_meaning : List ℕ → SourceForm → ℕ → KindMeaning
+source_meaning path form limit =
+    end_meaning (IsPath path × IsSourceForm form × (limit ≤ MAX_LIMIT)) writes_nothing
+
 abbrev pub sink_meaning : List ℕ → SinkForm → KindMeaning
-sink_meaning path form = record {
-  IsWithin = IsPath path × IsSinkForm form;
-  output = λ taken. [];
-  settled = λ taken. [];
-  tally = of_sink;
-  settled_tally = of_sink;
-  setting = no_options;
-  share = whole_share;
-  stand_in = no_stand_in;
-  written = written_by form;
-}
+sink_meaning path form = end_meaning (IsPath path × IsSinkForm form) (written_by form)

@@ -1,4 +1,4 @@
--- What each kind of pipe does with a whole flow. The one match on kinds is `meaning_of`.
+-- What each kind of pipe does with a whole flow. The one match that names every kind is `meaning_of`.
 use Rattle.std.specs.Prelude.{ℕ, ℤ, List, Option, Some, None, unwrap_or}
 use Rattle.up_model.specs.Ends.{source_meaning, sink_meaning}
 use Rattle.up_model.specs.KindMeaning.{KindMeaning, Setting, no_options}

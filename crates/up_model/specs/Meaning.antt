@@ -57,8 +57,8 @@ abbrev pub input_of : List Pipe → (ℕ → Flow) → Pipe → Flow
 input_of pipes given pipe = taken_by pipes (flow_at pipes given) pipe
 
 -- the six sums of the pipe at a place. No contract cites them yet: reports of a run will.
-abbrev pub tally_at : List Pipe → (ℕ → Flow) → ℕ → Tally
-tally_at pipes given place =
+abbrev pub tally_of : List Pipe → (ℕ → Flow) → ℕ → Tally
+tally_of pipes given place =
     stopped (work_at pipes given (flow_at pipes given) place (slice_get pipes place)).tally
 
 -- the bytes that a sink is to hold

@@ -5,20 +5,20 @@ use Rattle.up_model.specs.Packet.{PlainPacket, Flow, IsLegal}
 use Rattle.up_model.specs.Tallies.{nothing, plus, of_passed, of_dropped}
 use Rattle.up_model.specs.Work.{Work}
 use Rattle.up_model.specs.declared.opt.Opt.{Opt}
-use Rattle.up_model.specs.declared.passed.Passed.{Passed}
-use Rattle.up_model.specs.declared.passed.Passed.TheVariants.{Passes, Drops}
+use Rattle.up_model.specs.declared.verdict.Verdict.{Verdict}
+use Rattle.up_model.specs.declared.verdict.Verdict.TheVariants.{Passes, Drops}
 use Rattle.up_model.specs.declared.tally.Tally.{Tally}
 
 -- what becomes of a packet
 abbrev pub Step : Type 0
-Step = PlainPacket → Passed PlainPacket
+Step = PlainPacket → Verdict PlainPacket
 
-abbrev pub put_of : {P : Type 0} → Passed P → Option P
+abbrev pub put_of : {P : Type 0} → Verdict P → Option P
 put_of (Passes packet cut) = Some packet
 put_of Drops = None
 
 -- the sums of one packet
-abbrev pub sums_of : PlainPacket → Passed PlainPacket → Tally
+abbrev pub sums_of : PlainPacket → Verdict PlainPacket → Tally
 sums_of taken (Passes packet cut) = of_passed cut
 sums_of taken Drops = of_dropped (length taken.bytes)
 
@@ -57,6 +57,6 @@ abbrev pub drops : Step
 drops packet = Drops
 
 -- it is so of the packet that is put out, if one is
-abbrev pub IfPasses : {P : Type 0} → Passed P → (P → Type 0) → Type 0
+abbrev pub IfPasses : {P : Type 0} → Verdict P → (P → Type 0) → Type 0
 IfPasses (Passes packet cut) IsSo = IsSo packet
 IfPasses Drops IsSo = Unit {0}

@@ -7,7 +7,7 @@ use Rattle.up_model.specs.declared.kind.Kind.TheVariants.{Skip}
 use Rattle.up_model.specs.declared.limits.TheConstants.{MAX_PACKET}
 use Rattle.up_model.specs.declared.opt.Opt.{Opt}
 use Rattle.up_model.specs.declared.opt.Opt.TheVariants.{Mtu, Align, Offset, Low, High, By, Sync}
-use Rattle.up_model.specs.declared.passed.Passed.TheVariants.{Passes, Drops}
+use Rattle.up_model.specs.declared.verdict.Verdict.TheVariants.{Passes, Drops}
 
 abbrev pub skip_step : ℕ → Step
 skip_step count packet =

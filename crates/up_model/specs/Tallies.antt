@@ -69,6 +69,6 @@ of_dropped bytes = record { taken = 1; put = 0; dropped = 1; cut = bytes; gained
 abbrev pub of_source : Flow → Tally
 of_source put = record { taken = 0; put = length put; dropped = 0; cut = 0; gained = 0; lost = 0 }
 
--- these packets were taken, as by a sink
-abbrev pub of_sink : Flow → Tally
-of_sink taken = record { taken = length taken; put = 0; dropped = 0; cut = 0; gained = 0; lost = 0 }
+-- these packets were taken, as a sink takes them
+abbrev pub of_taken : Flow → Tally
+of_taken taken = record { taken = length taken; put = 0; dropped = 0; cut = 0; gained = 0; lost = 0 }

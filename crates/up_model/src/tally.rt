@@ -48,8 +48,8 @@ impl Tally {
         }
     }
 
-    /// Both sums together, each of which stops at 2^64 - 1.
-    pub fn plus(self, more: Tally) -> Tally
+    /// These sums and more, each of which stops at 2^64 - 1.
+    pub fn added(self, more: Tally) -> Tally
         ensures { result ≡ added self more }
     {
         Tally {

@@ -1,10 +1,9 @@
 use crate::{
-    CatchSet, DEFAULT_BLOCK, DEFAULT_QUEUE, Graph, Kind, MAX_LIMIT, PacketList, Pipe, PipeList,
-    PlainAttrs, PlainPacket, SinkForm, SourceForm, Tally, default_worker,
+    CatchSet, DEFAULT_QUEUE, Graph, Kind, PacketList, Pipe, PipeList, PlainAttrs, PlainPacket, Tally,
+    default_worker,
 };
-use std::alloc::Global;
 use std::test::Fail;
-use up_base::{Bytes, PipeName, Text};
+use up_base::{Bytes, PipeName};
 
 #[test]
 fn a_pipe_runs_on_main_where_its_graph_names_no_worker(rt: HostRuntime) {
@@ -29,7 +28,7 @@ fn nothing_is_caught_or_counted_by_default(rt: HostRuntime) {
 
 #[test]
 fn a_passed_and_a_dropped_packet_are_counted_together(rt: HostRuntime) {
-    let both = Tally::of_passed(3).plus(Tally::of_dropped(2));
+    let both = Tally::of_passed(3).added(Tally::of_dropped(2));
     let wanted = Tally {
         taken: 2,
         put: 1,
@@ -68,83 +67,35 @@ fn a_sum_that_is_full_stays_full(rt: HostRuntime) {
         gained: 7,
         lost: most,
     };
-    assert_eq!(rt; all.plus(more), wanted);
+    assert_eq!(rt; all.added(more), wanted);
+}
+
+/// A value that can cross threads.
+fn sent<T: Send>(value: T) -> T {
+    value
 }
 
 #[test]
-fn packets_come_out_in_the_order_of_their_adding(rt: HostRuntime) -> Result<(), Fail> {
+fn graphs_and_packets_can_cross_threads(rt: HostRuntime) -> Result<(), Fail> {
     let alloc = rt.alloc();
-    let mut packets = PacketList::new(alloc);
-    for text in ["ab", "", "cde"] {
-        packets.push(PlainPacket {
-            attrs: PlainAttrs::new(alloc),
-            bytes: Bytes::from_slice(alloc, text.as_bytes())?,
-        })?;
-    }
-    assert_eq!(rt; packets.len(), 3);
-    assert_eq!(rt; packets.at(2).bytes.as_slice(), b"cde".as_slice());
-    for text in ["ab", "", "cde"] {
-        let packet = packets.next().ok_or("no packet")?;
-        assert_eq!(rt; packet.bytes.as_slice(), text.as_bytes());
-        assert_eq!(rt; packet.attrs.len(), 0);
-    }
-    assert!(rt; packets.next().is_none());
-    Ok(())
-}
-
-/// A pipe on the worker `main`, with all else as a graph file has it that names nothing more.
-fn pipe(name: &[u8], input: Option<u16>, kind: Kind) -> Result<Pipe, Fail> {
-    Ok(Pipe {
-        name: PipeName::read(name)?,
+    let mut graph = Graph {
+        pipes: PipeList::new(alloc),
+    };
+    graph.pipes.push(Pipe {
+        name: PipeName::read(b"pass")?,
         worker: default_worker(),
-        input,
+        input: Some(0),
         select: None,
         queue: DEFAULT_QUEUE,
         caught: CatchSet::default(),
-        kind,
-    })
-}
-
-/// A source, an `idem` pipe and a sink.
-fn chain(alloc: Global) -> Result<Graph, Fail> {
-    let source = Kind::Source {
-        path: Text::from_str(alloc, "in.ts")?,
-        form: SourceForm::Raw {
-            block: DEFAULT_BLOCK,
-        },
-        limit: MAX_LIMIT,
-    };
-    let sink = Kind::Sink {
-        path: Text::from_str(alloc, "out.ts")?,
-        form: SinkForm::Raw,
-    };
-    let mut pipes = PipeList::new(alloc);
-    pipes.push(pipe(b"capture", None, source)?)?;
-    pipes.push(pipe(b"pass", Some(0), Kind::Idem)?)?;
-    pipes.push(pipe(b"archive", Some(1), sink)?)?;
-    Ok(Graph { pipes })
-}
-
-#[test]
-fn a_graph_holds_its_pipes_in_order(rt: HostRuntime) -> Result<(), Fail> {
-    let graph = chain(rt.alloc())?;
-    assert_eq!(rt; graph.pipes.len(), 3);
-    let (capture, pass, archive) = (graph.pipes.at(0), graph.pipes.at(1), graph.pipes.at(2));
-    assert_eq!(rt; capture.name.bytes(), b"capture".as_slice());
-    assert_eq!(rt; pass.name.bytes(), b"pass".as_slice());
-    assert_eq!(rt; archive.name.bytes(), b"archive".as_slice());
-    assert_eq!(rt;
-        [capture.input, pass.input, archive.input],
-        [None, Some(0), Some(1)]
-    );
-    match (&capture.kind, &pass.kind, &archive.kind) {
-        (Kind::Source { path, form, limit }, Kind::Idem, Kind::Sink { path: held, .. }) => {
-            assert_eq!(rt; path.as_str(), "in.ts");
-            assert_eq!(rt; *form, SourceForm::Raw { block: 4096 });
-            assert_eq!(rt; *limit, MAX_LIMIT);
-            assert_eq!(rt; held.as_str(), "out.ts");
-        }
-        _ => assert!(rt; false, "other kinds"),
-    }
+        kind: Kind::Idem,
+    })?;
+    assert_eq!(rt; sent(graph).pipes.len(), 1);
+    let mut packets = PacketList::new(alloc);
+    packets.push(PlainPacket {
+        attrs: PlainAttrs::new(alloc),
+        bytes: Bytes::from_slice(alloc, b"ab")?,
+    })?;
+    assert_eq!(rt; sent(packets).len(), 1);
     Ok(())
 }

@@ -6,7 +6,7 @@ use Rattle.up_model.specs.Packet.{Flow}
 use Rattle.up_model.specs.Packetwise.{Step, passed, work_by}
 use Rattle.up_model.specs.Tallies.{of_passed, of_dropped}
 use Rattle.up_model.specs.Work.{Work}
-use Rattle.up_model.specs.declared.passed.Passed.TheVariants.{Passes, Drops}
+use Rattle.up_model.specs.declared.verdict.Verdict.TheVariants.{Passes, Drops}
 use Rattle.up_model.specs.declared.plain_packet.PlainPacket.{PlainPacket}
 use Rattle.up_shape.proofs.Growths.{puts_nothing}
 use Rattle.up_shape.specs.Growth.{GrewInPart}

@@ -11,7 +11,7 @@ use crate::{
 };
 use std::process::Abort;
 use up_base::{ItemList, NoMemory};
-use up_model::{Passed, Tally};
+use up_model::{Verdict, Tally};
 
 /// `idem` by way of a second packet, so that it can run out of memory.
 type Copying = Packetwise<CopyStep>;
@@ -40,11 +40,11 @@ impl Made<()> for CopyStep {
 impl<P: LocalPacket> PacketStep<P> for CopyStep {
     ghost step = { λ _. passes_on };
 
-    fn pass(&self, mut p: P, s: &mut P::Store) -> Result<Passed<P>, NoMemory> {
+    fn pass(&self, mut p: P, s: &mut P::Store) -> Result<Verdict<P>, NoMemory> {
         match p.dup(s) {
             Ok(packet) => {
                 p.give_up(s);
-                Ok(Passed::Passes { packet, cut: 0 })
+                Ok(Verdict::Passes { packet, cut: 0 })
             }
             Err(NoMemory) => {
                 p.give_up(s);
@@ -55,7 +55,7 @@ impl<P: LocalPacket> PacketStep<P> for CopyStep {
 
     ghost settles = { λ _ _. refl };
 
-    ghost owes = { λ _ _. refl };
+    ghost owes_nothing = { λ _ _. refl };
 }
 
 /// Whether nothing was fed, asked through the bound.

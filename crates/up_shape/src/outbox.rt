@@ -76,7 +76,7 @@ impl<P> Outbox<P> {
         ensures tally { self.new.tally ≡ added self.old.tally t }
         ensures packets { self.new.packets ≡ self.old.packets }
     {
-        self.tally = self.tally.plus(t);
+        self.tally = self.tally.added(t);
     }
 
     /// Begins the count anew.

@@ -4,12 +4,12 @@ ghost use Rattle.up_model.specs.Packet.{Flow, IsLegal};
 ghost use Rattle.up_model.specs.Packetwise.{Step, IfPasses, work_by};
 ghost use Rattle.up_model.specs.declared.kind.Kind.{Kind};
 ghost use Rattle.up_shape.specs.Control.{answer_to, kind_after};
-ghost use Rattle.up_shape.specs.Passing.{plain_passed};
+ghost use Rattle.up_shape.specs.Passing.{plain_verdict};
 ghost use Rattle.up_shape.specs.Stores.{Stays};
 
 use crate::{Command, ControlRefused, LocalPacket, Reply};
 use up_base::NoMemory;
-use up_model::Passed;
+use up_model::Verdict;
 
 /// The options of a kind, as they stand.
 pub trait Options: Sized + Drop {
@@ -42,18 +42,18 @@ pub trait PacketStep<P: LocalPacket>: Options {
     ghost step: { Self → Step };
 
     /// Lets a packet pass, or drops it and gives it up.
-    fn pass(&self, p: P, s: &mut P::Store) -> Result<Passed<P>, NoMemory>
+    fn pass(&self, p: P, s: &mut P::Store) -> Result<Verdict<P>, NoMemory>
         requires legal { IsLegal (P.plain p) }
         requires family { P.fits p (P.Store.state s.old).family }
-        ensures passed { IfOk result (λ r. plain_passed P.plain r ≡ step self.now (P.plain p)) }
+        ensures passed { IfOk result (λ r. plain_verdict P.plain r ≡ step self.now (P.plain p)) }
         ensures family { IfOk result (λ r. IfPasses r (λ q. P.fits q (P.Store.state s.old).family)) }
         ensures store { Stays (P.Store.state s.old) (P.Store.state s.new) };
 
-    /// That is all that its kind does.
+    /// What its kind settles is the work of the step.
     ghost settles: { (k : Self) (taken : Flow)
         → settled_work (Self.kind k) taken ≡ work_by (step k) taken };
 
     /// It owes nothing at the end.
-    ghost owes: { (k : Self) (taken : Flow)
+    ghost owes_nothing: { (k : Self) (taken : Flow)
         → work_of (Self.kind k) taken ≡ work_by (step k) taken };
 }

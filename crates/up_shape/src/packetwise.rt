@@ -6,7 +6,7 @@ use crate::packet_step::{Made, PacketStep};
 use crate::{Command, ControlRefused, LocalPacket, Module, Outbox, Reply, put_out};
 use std::marker::PhantomData;
 use up_base::{AttrName, NoMemory};
-use up_model::{Passed, Tally};
+use up_model::{Verdict, Tally};
 
 /// A kind that looks at each packet by itself.
 #[derive(Debug)]
@@ -63,11 +63,11 @@ impl<P: LocalPacket, K: PacketStep<P>, Fields> Module<P> for Packetwise<K, Field
         self.fed = true;
         let size = p.size();
         match self.step.pass(p, s)? {
-            Passed::Passes { packet, cut } => {
+            Verdict::Passes { packet, cut } => {
                 put_out(packet, out, s)?;
                 out.add_tally(Tally::of_passed(cut));
             }
-            Passed::Drops => out.add_tally(Tally::of_dropped(u64::from(size))),
+            Verdict::Drops => out.add_tally(Tally::of_dropped(u64::from(size))),
         }
         Ok(())
     }

@@ -5,26 +5,18 @@ use crate::{MAX_KEPT, Stash, VecPacket, VecStore};
 
 /// Splits a store and joins both parts again.
 fn split_and_join<S: Stash>(store: &mut S)
-    requires { S.kept store.old ≤ MAX_KEPT }
+    requires { (S.state store.old).kept ≤ MAX_KEPT }
 {
     let other = store.split();
     store.join(other);
 }
 
-fn kept<S: Stash>(store: &S) -> usize {
-    store.kept()
-}
-
-fn family<S: Stash>(store: &S) -> S::Family {
-    store.family()
-}
-
 #[test]
-fn a_store_of_vectors_keeps_nothing_and_can_be_split_and_joined(rt: HostRuntime) {
+fn a_store_that_was_split_and_joined_makes_packets(rt: HostRuntime) {
     let mut store = VecStore::new(rt.alloc());
     split_and_join(&mut store);
-    assert_eq!(rt; kept(&store), 0);
-    assert_eq!(rt; family(&store), ());
+    let packet: VecPacket = fresh(&rt, b"abc", &mut store);
+    assert_bytes(&rt, &packet, b"abc");
 }
 
 /// A value that can cross threads.

@@ -1,7 +1,7 @@
 use Rattle.std.proofs.Common.{◌≡◌, ◌∙◌, length, rules, refl, ap, sym}
 use Rattle.up_model.specs.Kinds.{settled_work}
 use Rattle.up_model.specs.Tallies.{added, of_passed, of_dropped}
-use Rattle.up_shape.specs.Passing.{plain_passed}
+use Rattle.up_shape.specs.Passing.{plain_verdict}
 use Rattle.up_shape.proofs.Growths.{puts_one, puts_none}
 use Rattle.up_shape.proofs.PacketGrowths.{one_passes, one_drops, none_put, if_refused}
 use Rattle.up_shape.proofs.packetwise.PacketwiseModule.feed.Goals as goal
