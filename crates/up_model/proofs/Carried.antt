@@ -10,7 +10,7 @@ use Rattle.up_model.specs.Packet.{Flow, IsLegal}
 use Rattle.up_model.specs.declared.form.SourceForm.{SourceForm}
 use Rattle.up_model.specs.declared.form.SourceForm.TheVariants.{Raw}
 use Rattle.up_model.specs.declared.kind.Kind.{Kind}
-use Rattle.up_model.specs.declared.kind.Kind.TheVariants.{Source, Sink, Idem, Null, Dup, Skip}
+use Rattle.up_model.specs.declared.kind.Kind.TheVariants.{Source, Sink, Idem, Null, Dup, Skip, DelAttr}
 
 packets_are_legal : (form : SourceForm) (bytes : List ℕ) → IsSourceForm form → All IsLegal (packets_of form bytes)
 packets_are_legal (Raw block) bytes form = pieces_are_legal block bytes ((length bytes + block - 1) / block) form.1
@@ -29,3 +29,4 @@ carried_are_legal Idem bytes within = All-nil IsLegal
 carried_are_legal Null bytes within = All-nil IsLegal
 carried_are_legal Dup bytes within = All-nil IsLegal
 carried_are_legal (Skip count) bytes within = All-nil IsLegal
+carried_are_legal (DelAttr attr) bytes within = All-nil IsLegal
