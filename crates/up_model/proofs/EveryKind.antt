@@ -1,12 +1,13 @@
 -- Every kind keeps the laws: one row a kind.
 use Rattle.std.proofs.Common.{refl}
+use Rattle.up_model.proofs.DelAttr.{delattr_is_lawful}
 use Rattle.up_model.proofs.Ends.{source_is_lawful, sink_is_lawful}
 use Rattle.up_model.proofs.Lawful.{IsLawful, by_packets, no_options_kept, whole_shares}
 use Rattle.up_model.proofs.Skip.{skip_is_lawful}
 use Rattle.up_model.specs.KindMeaning.{no_options}
 use Rattle.up_model.specs.Packetwise.{passes_on, drops}
 use Rattle.up_model.specs.declared.kind.Kind.{Kind}
-use Rattle.up_model.specs.declared.kind.Kind.TheVariants.{Source, Sink, Idem, Null, Dup, Skip}
+use Rattle.up_model.specs.declared.kind.Kind.TheVariants.{Source, Sink, Idem, Null, Dup, Skip, DelAttr}
 
 idem_is_lawful : IsLawful Idem
 idem_is_lawful = record {
@@ -36,3 +37,4 @@ lawful Idem = idem_is_lawful
 lawful Null = null_is_lawful
 lawful Dup = dup_is_lawful
 lawful (Skip bytes) = skip_is_lawful bytes
+lawful (DelAttr attr) = delattr_is_lawful attr

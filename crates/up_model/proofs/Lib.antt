@@ -3,6 +3,8 @@ pub mod Carried
 pub mod Chains
 pub mod Cuts
 pub mod CuttingExamples
+pub mod DelAttr
+pub mod DelAttrExamples
 pub mod Ends
 pub mod EndsExamples
 pub mod EveryKind

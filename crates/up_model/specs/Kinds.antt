@@ -1,5 +1,6 @@
 -- What each kind of pipe does with a whole flow. The one match that names every kind is `meaning_of`.
 use Rattle.std.specs.Prelude.{ℕ, ℤ, List, Option, Some, None, unwrap_or}
+use Rattle.up_model.specs.DelAttr.{delattr_meaning}
 use Rattle.up_model.specs.Ends.{source_meaning, sink_meaning}
 use Rattle.up_model.specs.KindMeaning.{KindMeaning, Setting, no_options}
 use Rattle.up_model.specs.Packet.{Flow}
@@ -7,7 +8,7 @@ use Rattle.up_model.specs.Packetwise.{packetwise, passes_on, drops}
 use Rattle.up_model.specs.Skip.{skip_meaning}
 use Rattle.up_model.specs.Work.{Work}
 use Rattle.up_model.specs.declared.kind.Kind.{Kind}
-use Rattle.up_model.specs.declared.kind.Kind.TheVariants.{Source, Sink, Idem, Null, Dup, Skip}
+use Rattle.up_model.specs.declared.kind.Kind.TheVariants.{Source, Sink, Idem, Null, Dup, Skip, DelAttr}
 use Rattle.up_model.specs.declared.opt.Opt.{Opt}
 
 abbrev pub meaning_of : Kind → KindMeaning
@@ -17,6 +18,7 @@ meaning_of Idem = packetwise (Unit {0}) passes_on no_options
 meaning_of Null = packetwise (Unit {0}) drops no_options
 meaning_of Dup = packetwise (Unit {0}) passes_on no_options
 meaning_of (Skip bytes) = skip_meaning bytes
+meaning_of (DelAttr attr) = delattr_meaning attr
 
 -- its fields are within their bounds
 abbrev pub IsWithinBounds : Kind → Type 0

@@ -1,6 +1,7 @@
 pub mod Attrs
 pub mod Chain
 pub mod Cutting
+pub mod DelAttr
 pub mod Ends
 pub mod KindMeaning
 pub mod Kinds

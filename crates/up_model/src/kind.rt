@@ -1,5 +1,5 @@
 use crate::{SinkForm, SourceForm};
-use up_base::Text;
+use up_base::{AttrName, Text};
 
 /// What a pipe does, with the fields of its kind.
 #[derive(Debug, Drop)]
@@ -24,5 +24,9 @@ pub enum Kind {
     /// Takes the first `bytes` bytes off each packet, at most 1,048,576, and drops a packet that has fewer.
     Skip {
         bytes: u32,
+    },
+    /// Puts out each packet without the attribute of this name.
+    DelAttr {
+        attr: AttrName,
     },
 }
