@@ -182,7 +182,9 @@ fn the_offset_of_skip_is_set_within_its_bounds(rt: HostRuntime) {
 fn a_trial_is_refused_with_its_option(rt: HostRuntime) {
     let trial = Trial {
         set: &[(Opt::Offset, 1), (Opt::Offset, 1_048_577)],
-        ..TRIALS[0]
+        taken: &[b"ab"],
+        put: &[],
+        sums: NOTHING,
     };
     assert_eq!(rt;
         tried(rt.alloc(), Skip::new(), &trial),
