@@ -3,7 +3,7 @@ ghost use Rattle.up_model.specs.DelAttr.{delattr_step};
 ghost use Rattle.up_model.specs.declared.kind.Kind.TheVariants as kinds;
 
 use up_base::{AttrName, NoMemory};
-use up_model::Passed;
+use up_model::Verdict;
 use up_shape::{
     Command, ControlRefused, LocalPacket, Made, Options, PacketStep, Packetwise, Reply,
 };
@@ -37,12 +37,12 @@ impl Made<AttrName> for DelAttrStep {
 impl<P: LocalPacket> PacketStep<P> for DelAttrStep {
     ghost step = { λ del. delattr_step del.attr };
 
-    fn pass(&self, mut p: P, _s: &mut P::Store) -> Result<Passed<P>, NoMemory> {
+    fn pass(&self, mut p: P, _s: &mut P::Store) -> Result<Verdict<P>, NoMemory> {
         p.del_attr(&self.attr);
-        Ok(Passed::Passes { packet: p, cut: 0 })
+        Ok(Verdict::Passes { packet: p, cut: 0 })
     }
 
     ghost settles = { λ _ _. refl };
 
-    ghost owes = { λ _ _. refl };
+    ghost owes_nothing = { λ _ _. refl };
 }

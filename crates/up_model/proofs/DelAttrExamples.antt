@@ -9,7 +9,7 @@ use Rattle.up_model.specs.DelAttr.{delattr_step}
 use Rattle.up_model.specs.Kinds.{setting_of, settled_work, work_of}
 use Rattle.up_model.specs.Packet.{Flow, PlainPacket, plain}
 use Rattle.up_model.specs.Packetwise.{passed}
-use Rattle.up_model.specs.declared.passed.Passed.TheVariants.{Passes}
+use Rattle.up_model.specs.declared.verdict.Verdict.TheVariants.{Passes}
 use Rattle.up_model.specs.declared.kind.Kind.TheVariants.{DelAttr}
 use Rattle.up_model.specs.declared.opt.Opt.{Opt}
 use Rattle.up_model.specs.declared.value.Value.TheVariants.{Flag, Unsigned}

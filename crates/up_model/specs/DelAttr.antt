@@ -3,7 +3,7 @@ use Rattle.std.specs.Prelude.{ℕ, List}
 use Rattle.std.specs.FinMap.{remove}
 use Rattle.up_model.specs.KindMeaning.{KindMeaning, no_options}
 use Rattle.up_model.specs.Packetwise.{Step, packetwise}
-use Rattle.up_model.specs.declared.passed.Passed.TheVariants.{Passes}
+use Rattle.up_model.specs.declared.verdict.Verdict.TheVariants.{Passes}
 
 -- each packet without this attribute
 abbrev pub delattr_step : List ℕ → Step
