@@ -25,10 +25,8 @@ pub struct Name<Of> {
     of: PhantomData<Of>,
 }
 
-/// The name of a pipe.
 pub type PipeName = Name<PipeNames>;
 
-/// The name of a worker.
 pub type WorkerName = Name<WorkerNames>;
 
 /// The name of an attribute of a packet.

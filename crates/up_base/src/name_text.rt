@@ -24,7 +24,7 @@ fn is_name_byte(byte: u8) -> bool
 
 /// The place of the first of the text's first 64 bytes that may not stand in a name.
 fn first_bad(text: &[u8]) -> Option<usize>
-    ensures { result ≡ position (λ byte. not (is_name_byte byte)) (take 64 text.now) }
+    ensures { result ≡ position (λ byte. not (is_name_byte byte)) (take NAME_SIZE text.now) }
 {
     text.iter()
         .take(NAME_SIZE)
@@ -34,7 +34,7 @@ fn first_bad(text: &[u8]) -> Option<usize>
 /// 1 to 64 name bytes, kept inline and followed by zeros.
 #[derive(Clone, Copy, Debug)]
 pub struct NameText {
-    bytes: [u8; 64],
+    bytes: [u8; NAME_SIZE],
     len: u8,
 }
 
@@ -75,7 +75,7 @@ impl NameText {
         requires { is_name text.now ≡ true }
         ensures { result ≡ text.now }
     {
-        let mut bytes = [0; 64];
+        let mut bytes = [0; NAME_SIZE];
         for (at, byte) in text.iter().enumerate() {
             bytes[at] = *byte;
         }

@@ -11,14 +11,17 @@ abbrev pub passing_kind : Bool → Kind
 passing_kind true = Dup
 passing_kind false = Idem
 
+-- both keep the laws of a packetwise kind
 pub within_bounds : (dup : Bool) → IsWithinBounds (passing_kind dup)
 within_bounds true = tt
 within_bounds false = tt
 
-pub settles : (dup : Bool) (taken : Flow) → settled_work (passing_kind dup) taken ≡ work_by passes_on taken
+pub settles : (dup : Bool) (taken : Flow)
+    → settled_work (passing_kind dup) taken ≡ work_by passes_on taken
 settles true taken = refl
 settles false taken = refl
 
-pub owes_nothing : (dup : Bool) (taken : Flow) → work_of (passing_kind dup) taken ≡ work_by passes_on taken
+pub owes_nothing : (dup : Bool) (taken : Flow)
+    → work_of (passing_kind dup) taken ≡ work_by passes_on taken
 owes_nothing true taken = refl
 owes_nothing false taken = refl

@@ -45,7 +45,10 @@ fn delattr_leaves_the_bytes_of_packets(rt: HostRuntime) -> Result<(), Fail> {
     let alloc = rt.alloc();
     let key = AttrName::read(b"key")?;
     for trial in TRIALS {
-        assert_eq!(rt; tried(alloc, DelAttr::new(key), &trial), trial.wanted(alloc));
+        assert_eq!(rt;
+            tried(alloc, DelAttr::new(key), &trial),
+            trial.wanted(alloc)
+        );
     }
     Ok(())
 }
@@ -66,7 +69,10 @@ fn the_greatest_packet_goes_on(rt: HostRuntime) -> Result<(), Fail> {
         },
     };
     let key = AttrName::read(b"key")?;
-    assert_eq!(rt; tried(alloc, DelAttr::new(key), &whole), whole.wanted(alloc));
+    assert_eq!(rt;
+        tried(alloc, DelAttr::new(key), &whole),
+        whole.wanted(alloc)
+    );
     Ok(())
 }
 
@@ -90,12 +96,7 @@ fn five_thousand_packets_go_on(rt: HostRuntime) -> Result<(), Fail> {
 }
 
 /// A packet `abc` with these two attributes, whose values are 1 and 2.
-fn with_two(
-    rt: &impl Abort,
-    first: &AttrName,
-    second: &AttrName,
-    s: &mut TrialStore,
-) -> TrialPacket
+fn with_two(rt: &impl Abort, first: &AttrName, second: &AttrName, s: &mut TrialStore) -> TrialPacket
     ensures { IsLegal (plain_within result) }
 {
     let mut packet = TrialPacket::fresh(b"abc", s).expect(rt, "no memory");

@@ -20,6 +20,9 @@ IsRawSink kind = ⊥
 pub record IsChain (pipes : List Pipe) : Type 0 where
   pub two : 2 ≤ length pipes
   pub source : (pipe : Pipe) → slice_get pipes 0 ≡ Some pipe → IsRawSource pipe.kind
-  pub between : (place : ℕ) (pipe : Pipe) → 0 < place → place + 1 < length pipes → slice_get pipes place ≡ Some pipe → pipe.kind ≡ Idem
-  pub sink : (place : ℕ) (pipe : Pipe) → place + 1 ≡ length pipes → slice_get pipes place ≡ Some pipe → IsRawSink pipe.kind
-  pub input : (place : ℕ) (pipe : Pipe) → slice_get pipes (place + 1) ≡ Some pipe → pipe.input ≡ Some place
+  pub between : (place : ℕ) (pipe : Pipe) → 0 < place → place + 1 < length pipes
+      → slice_get pipes place ≡ Some pipe → pipe.kind ≡ Idem
+  pub sink : (place : ℕ) (pipe : Pipe) → place + 1 ≡ length pipes
+      → slice_get pipes place ≡ Some pipe → IsRawSink pipe.kind
+  pub input : (place : ℕ) (pipe : Pipe) → slice_get pipes (place + 1) ≡ Some pipe
+      → pipe.input ≡ Some place

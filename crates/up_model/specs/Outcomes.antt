@@ -11,7 +11,8 @@ use Rattle.up_model.specs.declared.outcome.Outcome.TheVariants.{Whole, TooLong}
 
 -- a source of the form: too long where there are more bytes than the limit, else whole
 abbrev pub source_outcome : SourceForm → ℕ → List ℕ → Outcome
-source_outcome (Raw block) limit bytes = if nat_lt limit (length bytes) then TooLong limit else Whole
+source_outcome (Raw block) limit bytes =
+    if nat_lt limit (length bytes) then TooLong limit else Whole
 
 -- the packets that bytes of the form hold, where these are all of them
 abbrev pub packets_of : SourceForm → List ℕ → Flow
@@ -24,7 +25,8 @@ whole_packets_of (Raw block) bytes = full_blocks block bytes
 -- all packets where the source is whole, else those within the limit
 abbrev pub source_flow : SourceForm → ℕ → List ℕ → Flow
 source_flow form limit bytes =
-    if nat_lt limit (length bytes) then whole_packets_of form (take limit bytes) else packets_of form bytes
+    if nat_lt limit (length bytes) then whole_packets_of form (take limit bytes)
+    else packets_of form bytes
 
 -- where no read fails: as a source of its form; a pipe that is no source is whole
 abbrev pub outcome_of : Kind → List ℕ → Outcome

@@ -71,4 +71,5 @@ of_source put = record { taken = 0; put = length put; dropped = 0; cut = 0; gain
 
 -- these packets were taken, as a sink takes them
 abbrev pub of_taken : Flow → Tally
-of_taken taken = record { taken = length taken; put = 0; dropped = 0; cut = 0; gained = 0; lost = 0 }
+of_taken taken =
+    record { taken = length taken; put = 0; dropped = 0; cut = 0; gained = 0; lost = 0 }

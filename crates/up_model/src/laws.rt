@@ -64,7 +64,8 @@ pub fn sums_count_packets()
 /// What `null` and `skip` cut and what they put out are the bytes that they took.
 pub fn cut_is_the_rest()
     ensures null { (taken : Flow) → CutsTheRest (work_of kinds.Null taken) taken }
-    ensures skip { (bytes : ℕ) (taken : Flow) → CutsTheRest (work_of (kinds.Skip bytes) taken) taken }
+    ensures skip { (bytes : ℕ) (taken : Flow)
+        → CutsTheRest (work_of (kinds.Skip bytes) taken) taken }
 {}
 
 /// A kind within its bounds makes legal packets of legal ones.

@@ -14,7 +14,6 @@ mod lists;
 mod opt;
 mod outcome;
 mod packet_laws;
-mod verdict;
 mod pipe;
 mod plain_attrs;
 mod plain_packet;
@@ -22,6 +21,7 @@ mod tally;
 #[cfg(test)]
 mod tests;
 mod value;
+mod verdict;
 
 pub use catch_set::CatchSet;
 pub use event_kind::EventKind;
@@ -41,9 +41,9 @@ pub use lists::{GivenBytes, PacketList, PipeList, PlaceList};
 pub use opt::Opt;
 pub use outcome::Outcome;
 pub use packet_laws::packets_stay_legal;
-pub use verdict::Verdict;
 pub use pipe::{Pipe, default_worker};
 pub use plain_attrs::PlainAttrs;
 pub use plain_packet::PlainPacket;
 pub use tally::Tally;
 pub use value::{Value, ValueView};
+pub use verdict::Verdict;

@@ -138,7 +138,6 @@ impl PlainAttrs {
         }
     }
 
-    /// How many attributes there are.
     pub fn len(&self) -> usize
         ensures { result ≡ map.len self.now }
     {

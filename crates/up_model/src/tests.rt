@@ -1,6 +1,6 @@
 use crate::{
-    CatchSet, DEFAULT_QUEUE, Graph, Kind, PacketList, Pipe, PipeList, PlainAttrs, PlainPacket, Tally,
-    default_worker,
+    CatchSet, DEFAULT_QUEUE, Graph, Kind, PacketList, Pipe, PipeList, PlainAttrs, PlainPacket,
+    Tally, default_worker,
 };
 use std::test::Fail;
 use up_base::{Bytes, PipeName};

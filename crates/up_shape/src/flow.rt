@@ -1,5 +1,5 @@
 // Whole flows, fed to a module.
-ghost use Rattle.std.specs.Prelude.{◌≡◌, ◌≤◌, ◌++◌, ◌∷◌, [], All, length, map, OnOk, OnErr};
+ghost use Rattle.std.specs.Prelude.{◌≡◌, ◌≤◌, ◌++◌, ◌∷◌, ◌⊎◌, [], All, length, map, OnOk, OnErr, IsErr};
 ghost use Rattle.up_model.specs.Kinds.{work_of, settled_work};
 ghost use Rattle.up_model.specs.Packet.{Flow, IsLegal, plain};
 ghost use Rattle.up_model.specs.Work.{no_work};
@@ -58,7 +58,8 @@ pub fn feed_all<P: LocalPacket, M: Module<P>>(
     Ok(())
 }
 
-/// Makes a packet of these bytes, at most `MAX_PACKET`, and feeds it. After `NoMemory` the module is one to be given up.
+/// Makes a packet of these bytes, at most `MAX_PACKET`, and feeds it. After `NoMemory` the module is one to be given up,
+/// also where nothing was fed.
 pub fn feed_bytes<P: LocalPacket, M: Module<P>>(
     m: &mut M,
     bytes: &[u8],
@@ -75,6 +76,8 @@ pub fn feed_bytes<P: LocalPacket, M: Module<P>>(
     ensures in_part { (fed : Flow) → M.stands m.old fed
         → OnErr result (GrewInPart P.plain out.old out.new (settled_work (M.kind m.old) fed)
         (settled_work (M.kind m.old) (fed ++ plain bytes.now ∷ []))) }
+    ensures used { (M.stands m.new [] → ⊥)
+        ⊎ (IsErr result × (m.new ≡ m.old) × (out.new ≡ out.old)) }
     ensures kind { M.kind m.new ≡ M.kind m.old }
     ensures family { AreOf P.fits (M.agrees m.new) out.new.packets (P.Store.state s.old).family }
     ensures store { Stays (P.Store.state s.old) (P.Store.state s.new) }

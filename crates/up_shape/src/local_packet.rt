@@ -47,7 +47,8 @@ pub trait LocalPacket: Sized {
         requires { (0 < size) × (size ≤ MAX_PACKET) }
         ensures size { IfOk result (λ r. length (content r) ≡ size) }
         ensures family { IfOk result (λ r. room_fits r (Self.Store.state s.old).family) }
-        ensures drawn { OnOk result ((Self.Store.state s.old).drawn < (Self.Store.state s.new).drawn) }
+        ensures drawn { OnOk result
+            ((Self.Store.state s.old).drawn < (Self.Store.state s.new).drawn) }
         ensures store { Stays (Self.Store.state s.old) (Self.Store.state s.new) };
 
     /// The bytes of the room, to be written.

@@ -26,7 +26,8 @@ pub trait Module<P: LocalPacket>: Sized {
     fn feed(&mut self, p: P, out: &mut Outbox<P>, s: &mut P::Store) -> Result<(), NoMemory>
         requires legal { IsLegal (P.plain p) }
         requires packet { P.fits p (P.Store.state s.old).family }
-        requires family { AreOf P.fits (agrees self.old) out.old.packets (P.Store.state s.old).family }
+        requires family { AreOf P.fits (agrees self.old)
+            out.old.packets (P.Store.state s.old).family }
         ensures stands { (fed : Flow) → stands self.old fed
             → OnOk result (stands self.new (fed ++ P.plain p ∷ [])) }
         ensures grew { (fed : Flow) → stands self.old fed
@@ -37,9 +38,10 @@ pub trait Module<P: LocalPacket>: Sized {
             → OnErr result (GrewInPart P.plain out.old out.new
             (settled_work (kind self.old) fed)
             (settled_work (kind self.old) (fed ++ P.plain p ∷ []))) }
-        ensures used { OnErr result (stands self.new [] → ⊥) }
+        ensures used { stands self.new [] → ⊥ }
         ensures kind { kind self.new ≡ kind self.old }
-        ensures family { AreOf P.fits (agrees self.new) out.new.packets (P.Store.state s.old).family }
+        ensures family { AreOf P.fits (agrees self.new)
+            out.new.packets (P.Store.state s.old).family }
         ensures store { Stays (P.Store.state s.old) (P.Store.state s.new) };
 
     /// The whole end of the flow: puts out what is owed, and gives up all else.
@@ -69,7 +71,7 @@ pub trait Module<P: LocalPacket>: Sized {
         requires fresh { Sets c → stands self.old [] }
         ensures answer { result ≡ answer_to (kind self.old) c }
         ensures kind { kind self.new ≡ kind_after (kind self.old) c }
-        ensures stands { (fed : Flow) → stands self.old fed → stands self.new fed }
+        ensures stands { (fed : Flow) → stands self.old fed ↔ stands self.new fed }
         ensures family { (f : P.Store.Family) → agrees self.old f → agrees self.new f };
 
     /// One that was fed nothing agrees with every family.

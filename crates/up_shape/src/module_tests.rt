@@ -11,7 +11,7 @@ use crate::{
 };
 use std::process::Abort;
 use up_base::{ItemList, NoMemory};
-use up_model::{Verdict, Tally};
+use up_model::{Tally, Verdict};
 
 /// `idem` by way of a second packet, so that it can run out of memory.
 type Copying = Packetwise<CopyStep>;

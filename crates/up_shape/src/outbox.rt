@@ -57,14 +57,12 @@ impl<P> Outbox<P> {
         self.packets.next()
     }
 
-    /// How many packets there are.
     pub fn len(&self) -> usize
         ensures { result ≡ length self.now.packets }
     {
         self.packets.len()
     }
 
-    /// What was counted.
     pub fn tally(&self) -> Tally
         ensures { result ≡ self.now.tally }
     {

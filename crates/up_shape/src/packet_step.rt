@@ -46,7 +46,8 @@ pub trait PacketStep<P: LocalPacket>: Options {
         requires legal { IsLegal (P.plain p) }
         requires family { P.fits p (P.Store.state s.old).family }
         ensures passed { IfOk result (λ r. plain_verdict P.plain r ≡ step self.now (P.plain p)) }
-        ensures family { IfOk result (λ r. IfPasses r (λ q. P.fits q (P.Store.state s.old).family)) }
+        ensures family { IfOk result
+            (λ r. IfPasses r (λ q. P.fits q (P.Store.state s.old).family)) }
         ensures store { Stays (P.Store.state s.old) (P.Store.state s.new) };
 
     /// What its kind settles is the work of the step.

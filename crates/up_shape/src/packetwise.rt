@@ -6,7 +6,7 @@ use crate::packet_step::{Made, PacketStep};
 use crate::{Command, ControlRefused, LocalPacket, Module, Outbox, Reply, put_out};
 use std::marker::PhantomData;
 use up_base::{AttrName, NoMemory};
-use up_model::{Verdict, Tally};
+use up_model::{Tally, Verdict};
 
 /// A kind that looks at each packet by itself.
 #[derive(Debug)]

@@ -136,7 +136,8 @@ fn push_packet(
     s: &mut VecStore,
 ) -> Result<(), Untried>
     requires legal { All (λ p. IsLegal (plain_of p)) flow.old }
-    ensures added { OnOk result (map plain_of flow.new ≡ map plain_of flow.old ++ plain bytes.now ∷ []) }
+    ensures added { OnOk result
+        (map plain_of flow.new ≡ map plain_of flow.old ++ plain bytes.now ∷ []) }
     ensures legal { All (λ p. IsLegal (plain_of p)) flow.new }
 {
     if bytes.len() > MAX_PACKET as usize {
@@ -160,7 +161,8 @@ fn push_copy(alloc: Global, put: &mut Vec<Vec<u8>>, bytes: &[u8]) -> Result<(), 
 
 /// The bytes of the packets in the outbox, and its sums. The outbox is given up.
 fn came_of(alloc: Global, mut out: Outbox<VecPacket>) -> Result<Came, Untried>
-    ensures put { IfOk result (λ came. copies came.put ≡ map (λ p. (plain_of p).bytes) out.packets) }
+    ensures put { IfOk result
+        (λ came. copies came.put ≡ map (λ p. (plain_of p).bytes) out.packets) }
     ensures sums { IfOk result (λ came. came.sums ≡ out.tally) }
 {
     let sums = out.tally();
