@@ -1,12 +1,9 @@
-use crate::fault::Fault;
-use crate::line::fault_line;
-use crate::tell::tell;
+use crate::{Fault, OUT_OF_MEMORY, fault_line};
 use std::alloc::Global;
 use std::process::Abort;
 use std::test::Fail;
 use up_base::{NoMemory, PipeName, Text};
 use up_graph::GraphRefused;
-use up_outside::{MemSink, WriterSink};
 
 fn bad_field(alloc: Global, pipe: u16, field: &str) -> Result<Fault, NoMemory> {
     let field = Text::from_str(alloc, field)?;
@@ -92,30 +89,35 @@ fn each_other_fault_has_its_line(rt: HostRuntime) -> Result<(), Fail> {
             },
             "upipe: too long: pipe capture limit 1099511627776\n",
         ),
-        (Fault::NoMemory, "upipe: out of memory\n"),
+        (Fault::WriteReport, "upipe: write fault: report\n"),
+        (
+            Fault::BadFrame {
+                pipe: capture,
+                offset: 0,
+            },
+            "upipe: bad frame: pipe capture offset 0\n",
+        ),
     ];
+    assert_eq!(rt; OUT_OF_MEMORY, "upipe: out of memory\n");
     assert_lines(&rt, alloc, &table)
 }
 
 #[test]
-fn a_fault_is_told_and_its_status_answered(rt: HostRuntime) -> Result<(), Fail> {
-    let alloc = rt.alloc();
-    let mut err = MemSink::new(alloc);
-    assert_eq!(rt; tell(alloc, &mut err, &Fault::ReadGraph), 4);
-    assert_eq!(rt; tell(alloc, &mut err, &Fault::NoMemory), 7);
-    assert_eq!(rt;
-        err.bytes(),
-        b"upipe: read fault: graph\nupipe: out of memory\n".as_slice()
-    );
-    Ok(())
-}
-
-#[test]
-fn a_sink_that_fails_changes_no_status(rt: HostRuntime) -> Result<(), Fail> {
-    let mut room = [0; 6];
-    let mut err = WriterSink::new(room.as_mut_slice());
-    assert_eq!(rt; tell(rt.alloc(), &mut err, &Fault::Usage), 2);
-    assert_eq!(rt; err.faults(), 1);
-    assert_eq!(rt; room.as_slice(), b"usage:".as_slice());
+fn each_fault_has_its_status(rt: HostRuntime) -> Result<(), Fail> {
+    let pipe = PipeName::read(b"capture")?;
+    let table = [
+        (Fault::Usage, 2),
+        (Fault::Graph(GraphRefused::NotToml), 3),
+        (Fault::Graph(GraphRefused::NoMemory), 7),
+        (Fault::ReadGraph, 4),
+        (Fault::Read(pipe), 4),
+        (Fault::Write(pipe), 5),
+        (Fault::WriteReport, 5),
+        (Fault::BadFrame { pipe, offset: 4 }, 6),
+        (Fault::TooLong { pipe, limit: 4 }, 8),
+    ];
+    for (fault, status) in &table {
+        assert_eq!(rt; fault.status(), *status);
+    }
     Ok(())
 }

@@ -1,6 +1,5 @@
-// The line that tells a fault.
 ghost use Rattle.std.specs.Prelude.{◌≡◌, ◌++◌, ◌<◌, decimal, codes, IfOk, OnOk, OnErr};
-ghost use Rattle.upipe_run.specs.Lines.{hex_digit, is_plain, escape, escaped, pipe_text, refusal_text, fault_text, line_of};
+ghost use Rattle.up_report.specs.Lines.{hex_digit, is_plain, escape, escaped, pipe_text, refusal_text, fault_text, fault_bytes};
 
 use crate::fault::Fault;
 use std::alloc::Global;
@@ -105,14 +104,20 @@ fn refusal_text(alloc: Global, refused: &GraphRefused) -> Result<Bytes, NoMemory
     }
 }
 
-/// What is told of a source that is too long.
-fn limit_text(alloc: Global, pipe: &[u8], limit: u64) -> Result<Bytes, NoMemory>
+/// The words, a pipe's name, the next words, and the number.
+fn measured(
+    alloc: Global,
+    words: &str,
+    pipe: &[u8],
+    next: &str,
+    number: u64,
+) -> Result<Bytes, NoMemory>
     ensures { IfOk result (λ text. text
-        ≡ codes "upipe: too long: pipe " ++ pipe.now ++ codes " limit " ++ decimal limit) }
+        ≡ words.now ++ pipe.now ++ next.now ++ decimal number) }
 {
-    let mut text = named(alloc, "upipe: too long: pipe ", pipe)?;
-    text.append(b" limit ")?;
-    push_decimal(&mut text, limit)?;
+    let mut text = named(alloc, words, pipe)?;
+    text.append(next.as_bytes())?;
+    push_decimal(&mut text, number)?;
     Ok(text)
 }
 
@@ -130,14 +135,22 @@ fn fault_text(alloc: Global, fault: &Fault) -> Result<Bytes, NoMemory>
         Fault::ReadGraph => Bytes::from_slice(alloc, b"upipe: read fault: graph"),
         Fault::Read(pipe) => named(alloc, "upipe: read fault: pipe ", pipe.bytes()),
         Fault::Write(pipe) => named(alloc, "upipe: write fault: pipe ", pipe.bytes()),
-        Fault::TooLong { pipe, limit } => limit_text(alloc, pipe.bytes(), *limit),
-        Fault::NoMemory => Bytes::from_slice(alloc, b"upipe: out of memory"),
+        Fault::WriteReport => Bytes::from_slice(alloc, b"upipe: write fault: report"),
+        Fault::BadFrame { pipe, offset } => {
+            measured(alloc, "upipe: bad frame: pipe ", pipe.bytes(), " offset ", *offset)
+        }
+        Fault::TooLong { pipe, limit } => {
+            measured(alloc, "upipe: too long: pipe ", pipe.bytes(), " limit ", *limit)
+        }
     }
 }
 
+/// The line of want of memory, which takes none.
+pub const OUT_OF_MEMORY: &str = "upipe: out of memory\n";
+
 /// The line of the fault.
 pub fn fault_line(alloc: Global, fault: &Fault) -> Result<Bytes, NoMemory>
-    ensures { IfOk result (λ line. line ≡ line_of fault.now) }
+    ensures { IfOk result (λ line. line ≡ fault_bytes fault.now) }
 {
     let mut line = fault_text(alloc, fault)?;
     line.push(b'\n')?;

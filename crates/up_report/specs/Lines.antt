@@ -1,14 +1,11 @@
 -- The line of each fault.
-use Rattle.std.specs.Prelude.{◌≡◌, ◌⊎◌, ℕ, ◌/◌, ◌%◌, ◌==◌, Bool, false, ◌&&◌, not, if◌then◌else◌, List, [], ◌∷◌, ◌++◌, flat_map, codes, decimal, Option}
+use Rattle.std.specs.Prelude.{ℕ, ◌/◌, ◌%◌, ◌==◌, Bool, false, ◌&&◌, not, if◌then◌else◌, List, [], ◌∷◌, ◌++◌, flat_map, codes, decimal}
 use Rattle.std.specs.Fmt.{digit_glyph}
-use Rattle.std.specs.Io.KnownBytes.{Appends}
 use Rattle.up_base.specs.Name.{is_within}
 use Rattle.up_graph.specs.declared.graph_refused.GraphRefused.{GraphRefused}
 use Rattle.up_graph.specs.declared.graph_refused.GraphRefused.TheVariants as refusals
-use Rattle.up_outside.specs.Counts.{Rose}
-use Rattle.upipe_run.specs.Flow.{IsPrefixOf}
-use Rattle.upipe_run.specs.declared.fault.Fault.{Fault}
-use Rattle.upipe_run.specs.declared.fault.Fault.TheVariants.{Usage, Graph, ReadGraph, Read, Write, TooLong, NoMemory}
+use Rattle.up_report.specs.declared.fault.Fault.{Fault}
+use Rattle.up_report.specs.declared.fault.Fault.TheVariants.{Usage, Graph, ReadGraph, Read, Write, WriteReport, BadFrame, TooLong}
 
 -- a digit to the base 16, in lower case
 abbrev pub hex_digit : ℕ → ℕ
@@ -47,23 +44,14 @@ fault_text (Graph refused) = refusal_text refused
 fault_text ReadGraph = codes "upipe: read fault: graph"
 fault_text (Read pipe) = codes "upipe: read fault: pipe " ++ pipe
 fault_text (Write pipe) = codes "upipe: write fault: pipe " ++ pipe
+fault_text WriteReport = codes "upipe: write fault: report"
+fault_text (BadFrame pipe offset) = codes "upipe: bad frame: pipe " ++ pipe ++ codes " offset " ++ decimal offset
 fault_text (TooLong pipe limit) = codes "upipe: too long: pipe " ++ pipe ++ codes " limit " ++ decimal limit
-fault_text NoMemory = codes "upipe: out of memory"
 
--- ended by a line feed
-abbrev pub line_of : Fault → List ℕ
-line_of fault = fault_text fault ++ 10 ∷ []
+-- the fault's line, ended by a line feed
+abbrev pub fault_bytes : Fault → List ℕ
+fault_bytes fault = fault_text fault ++ 10 ∷ []
 
--- what was written grew by a prefix of the line
-abbrev pub AppendsPrefix : Option (List ℕ) → Option (List ℕ) → List ℕ → Type 0
-AppendsPrefix old new line = (put : List ℕ) × IsPrefixOf put line × Appends old new put
-
--- the line was written, or a prefix of it before the sink failed
-abbrev pub WritesLine : Option (List ℕ) → Option (List ℕ) → ℕ → ℕ → List ℕ → Type 0
-WritesLine old new old_faults new_faults line =
-    Appends old new line ⊎ (AppendsPrefix old new line × Rose old_faults new_faults)
-
--- a prefix of the fault's line was written, or at status 7 of the line of want of memory
-abbrev pub WritesPrefix : Option (List ℕ) → Option (List ℕ) → Fault → ℕ → Type 0
-WritesPrefix old new fault status =
-    AppendsPrefix old new (line_of fault) ⊎ ((status ≡ 7) × AppendsPrefix old new (line_of NoMemory))
+-- the line of want of memory
+abbrev pub no_memory_bytes : List ℕ
+no_memory_bytes = codes "upipe: out of memory" ++ 10 ∷ []
