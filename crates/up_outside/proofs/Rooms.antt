@@ -5,7 +5,7 @@ use Rattle.std.specs.FinMap.{get, insert, get-insert}
 use Rattle.std.specs.Cmp.Lexicographic.{nat_list_cmp_total}
 use Rattle.std.proofs.lemmas.List.Elements.{All-push, All-set}
 use Rattle.up_base.specs.declared.refusal.NoMemory.{NoMemory}
-use Rattle.up_outside.specs.Asked.{entry, with_mark, IsOpenAt, Closes}
+use Rattle.up_outside.specs.Asked.{entry, with_mark, IsOpenAt, Ending, Closes}
 use Rattle.up_outside.specs.Held.{Held, KeepsOthers}
 use Rattle.up_outside.specs.Rooms.{HasRoom, HasRooms}
 use Rattle.up_outside.specs.declared.asked.Entry.{Entry}
@@ -21,19 +21,15 @@ pub is_held : (held : Held) (path bytes : List ℕ) → is_some (get (insert hel
 is_held held path bytes = rw (get-inserted held path bytes path, same-refl path) refl
 
 -- no other path changes where one is set
-pub keeps_others : (held : Held) (path bytes : List ℕ) → KeepsOthers held (Some (insert held path bytes)) path
-keeps_others held path bytes = record {
-  after = insert held path bytes;
-  told = refl;
-  others = λ q differs. rw (get-inserted held path bytes q, same-false q path differs) refl;
-}
+pub keeps_others : (held : Held) (path bytes : List ℕ) → KeepsOthers path held (insert held path bytes)
+keeps_others held path bytes = λ q differs. rw (get-inserted held path bytes q, same-false q path differs) refl
 
-pub keeps_all : (held : Held) (path : List ℕ) → KeepsOthers held (Some held) path
-keeps_all held path = record { after = held; told = refl; others = λ q differs. refl }
+pub keeps_all : (held : Held) (path : List ℕ) → KeepsOthers path held held
+keeps_all held path = λ q differs. refl
 
 -- the same of a call that may set it
 pub keeps_others-set : {E : Type 0} (held new : Held) (path bytes : List ℕ) (result : Result (Unit {0}) E)
-    → OnOk result (new ≡ insert held path bytes) → OnErr result (new ≡ held) → KeepsOthers held (Some new) path
+    → OnOk result (new ≡ insert held path bytes) → OnErr result (new ≡ held) → KeepsOthers path held new
 keeps_others-set held new path bytes (Ok u) set unchanged = rw set (keeps_others held path bytes)
 keeps_others-set held new path bytes (Err e) set unchanged = rw unchanged (keeps_all held path)
 
@@ -62,12 +58,11 @@ rooms-ask held asked after e (Ok u) added unchanged rooms room = rw added (All-p
 rooms-ask held asked after e (Err n) added unchanged rooms room = rw unchanged rooms
 
 -- an entry that is closed needs no room
-pub rooms-close : (held : Held) (asked after : List Entry) (place : Option ℕ) (n : ℕ) (side : Side) (path : List ℕ) (failed shut : Bool)
-    → HasRooms held asked → IsOpenAt asked place side path → Closes asked (Some after) place (Some n) failed shut → HasRooms held after
-rooms-close held asked after place n side path failed shut rooms is closes =
-    let told : after ≡ closes.after = let e = closes.told in cc in
-    let closed : HasRoom held (with_mark (entry path side marks.Open) (marks.Closed n failed shut)) = λ of_sink is_open. absurd (not_open is_open) in
-    rw (told, closes.closed is.at n _ is.told refl is.open_entry) (All-set (HasRoom held) asked is.at _ closed rooms)
+pub rooms-close : (held : Held) (asked after : List Entry) (end : Ending) (n : ℕ) (side : Side) (path : List ℕ)
+    → HasRooms held asked → IsOpenAt asked end.place side path → end.moved ≡ Some n → Closes end asked after → HasRooms held after
+rooms-close held asked after end n side path rooms is moved closes =
+    let closed : HasRoom held (with_mark (entry path side marks.Open) (marks.Closed n end.failed end.shut)) = λ of_sink is_open. absurd (not_open is_open) in
+    rw (closes is.at n _ is.told moved is.open_entry) (All-set (HasRoom held) asked is.at _ closed rooms)
   where
-    not_open : marks.Closed n failed shut ≡ marks.Open → ⊥
+    not_open : marks.Closed n end.failed end.shut ≡ marks.Open → ⊥
     not_open is = cc

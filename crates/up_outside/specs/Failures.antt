@@ -2,11 +2,10 @@
 use Rattle.std.specs.Prelude.{ℕ, List, Bool, true, false, ◌&&◌, ◌==◌, count_by, filter, map}
 use Rattle.std.specs.List.{list_any}
 use Rattle.std.specs.Str.{bytes_eq}
+use Rattle.up_outside.specs.Asked.{is_of_source, is_of_sink}
 use Rattle.up_outside.specs.declared.asked.Entry.{Entry}
 use Rattle.up_outside.specs.declared.asked.Mark.{Mark}
 use Rattle.up_outside.specs.declared.asked.Mark.TheVariants as marks
-use Rattle.up_outside.specs.declared.asked.Side.{Side}
-use Rattle.up_outside.specs.declared.asked.Side.TheVariants as sides
 use Rattle.up_outside.specs.declared.depot_call.DepotCall.{DepotCall}
 use Rattle.up_outside.specs.declared.depot_call.DepotCall.TheVariants as calls
 use Rattle.up_outside.specs.declared.failures.Failure.{Failure}
@@ -26,14 +25,6 @@ same_call _ _ = false
 -- whether the row is of such a call on the path
 abbrev pub is_such : DepotCall → List ℕ → Failure → Bool
 is_such call path row = same_call row.call call && bytes_eq row.path path
-
-abbrev pub is_of_source : Side → Bool
-is_of_source sides.Source = true
-is_of_source sides.Sink = false
-
-abbrev pub is_of_sink : Side → Bool
-is_of_sink sides.Source = false
-is_of_sink sides.Sink = true
 
 abbrev pub is_closed : Mark → Bool
 is_closed marks.Refused = false

@@ -3,9 +3,9 @@ use Rattle.std.specs.Prelude.{◌≡◌, ℕ, ◌+◌, ◌++◌, List, [], lengt
 use Rattle.std.specs.FinMap.{get}
 use Rattle.up_base.specs.declared.refusal.Refusal.{Refusal}
 use Rattle.up_base.specs.declared.refusal.Refusal.TheVariants as refusals
-use Rattle.up_outside.specs.Asked.{opened}
+use Rattle.up_outside.specs.Asked.{opened, is_of_source, is_of_sink}
 use Rattle.up_outside.specs.Counts.{is_failed, CountsWhere}
-use Rattle.up_outside.specs.Failures.{is_of_source, is_of_sink, calls_made, is_due, numbers_of}
+use Rattle.up_outside.specs.Failures.{calls_made, is_due, numbers_of}
 use Rattle.up_outside.specs.Held.{Held}
 use Rattle.up_outside.specs.ObjectCalls.{made_of, failing_of}
 use Rattle.up_outside.specs.declared.asked.Side.{Side}
@@ -18,6 +18,7 @@ use Rattle.up_outside.specs.declared.mem_sink.MemSink.{MemSink}
 use Rattle.up_outside.specs.declared.mem_source.MemSource.{MemSource}
 use Rattle.up_outside.specs.MemSink.{sink_bytes, sink_place, sink_calls, sink_faults, sink_most}
 use Rattle.up_outside.specs.MemSource.{source_left, source_moved, source_place, source_calls, source_faults, source_most}
+use Rattle.up_outside.specs.States.{DepotState}
 
 -- the bytes at each path
 abbrev pub depot_held : MemDepot → Held
@@ -95,3 +96,12 @@ pub record IsNewSink (d : MemDepot) (path : List ℕ) (k : MemSink) : Type 0 whe
   pub faults : sink_faults k ≡ 0
   pub made : made_of (sink_calls k) ≡ 0
   pub failing : failing_of (sink_calls k) ≡ numbers_of calls.Write path (depot_failures d)
+
+-- it tells all
+abbrev pub depot_state : MemDepot → DepotState
+depot_state d = record {
+  held = Some (depot_held d);
+  asked = Some (depot_asked d);
+  source_faults = depot_source_faults d;
+  sink_faults = depot_sink_faults d;
+}

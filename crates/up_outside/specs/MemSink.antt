@@ -1,7 +1,8 @@
 -- What a sink in memory tells.
-use Rattle.std.specs.Prelude.{◌≡◌, ℕ, List, length}
+use Rattle.std.specs.Prelude.{◌≡◌, ℕ, Some, List, length}
 use Rattle.up_outside.specs.declared.object_calls.ObjectCalls.{ObjectCalls}
 use Rattle.up_outside.specs.declared.mem_sink.MemSink.{MemSink}
+use Rattle.up_outside.specs.States.{SinkState}
 
 -- what was written
 abbrev pub sink_bytes : MemSink → List ℕ
@@ -31,3 +32,12 @@ sink_most k = k.most
 pub record IsSameSink (old new : MemSink) : Type 0 where
   pub place : sink_place new ≡ sink_place old
   pub most : sink_most new ≡ sink_most old
+
+-- it tells all
+abbrev pub sink_state : MemSink → SinkState
+sink_state k = record {
+  written = Some (sink_bytes k);
+  place = Some (sink_place k);
+  moved = Some (sink_moved k);
+  faults = sink_faults k;
+}

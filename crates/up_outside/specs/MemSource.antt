@@ -1,7 +1,8 @@
 -- What a source over bytes in memory tells.
-use Rattle.std.specs.Prelude.{◌≡◌, ℕ, List, drop}
+use Rattle.std.specs.Prelude.{◌≡◌, ℕ, Some, List, drop}
 use Rattle.up_outside.specs.declared.object_calls.ObjectCalls.{ObjectCalls}
 use Rattle.up_outside.specs.declared.mem_source.MemSource.{MemSource}
+use Rattle.up_outside.specs.States.{SourceState}
 
 -- the bytes still to come
 abbrev pub source_left : MemSource → List ℕ
@@ -31,3 +32,12 @@ source_most s = s.most
 pub record IsSameSource (old new : MemSource) : Type 0 where
   pub place : source_place new ≡ source_place old
   pub most : source_most new ≡ source_most old
+
+-- it tells all
+abbrev pub source_state : MemSource → SourceState
+source_state s = record {
+  left = Some (source_left s);
+  place = Some (source_place s);
+  moved = Some (source_moved s);
+  faults = source_faults s;
+}

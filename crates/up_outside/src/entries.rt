@@ -26,7 +26,8 @@ pub(crate) fn ask(
 /// Marks the entry at a place as closed.
 pub(crate) fn close_entry(asked: &mut Vec<Entry>, at: usize, moved: u64, failed: bool, shut: bool)
     requires { at < length asked.old.items }
-    ensures { Closes asked.old.items (Some asked.new.items) (Some at) (Some moved) failed shut }
+    ensures { Closes (record { place = Some at; moved = Some moved; failed = failed; shut = shut })
+        asked.old.items asked.new.items }
 {
     asked[at].mark = Mark::Closed {
         moved,

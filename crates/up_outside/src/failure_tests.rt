@@ -7,21 +7,21 @@ use up_base::{Failed, Refusal};
 
 /// Whether a read failed, for another reason than the end.
 fn read_fails<S: Source>(source: &mut S) -> bool
-    ensures { S.place source.new ≡ S.place source.old }
+    ensures { (S.state source.new).place ≡ (S.state source.old).place }
 {
     source.read(&mut [0; 1]) == Err(Failed)
 }
 
 /// Whether a write failed, for another reason than want of memory.
 fn write_fails<K: Sink>(sink: &mut K) -> bool
-    ensures { K.place sink.new ≡ K.place sink.old }
+    ensures { (K.state sink.new).place ≡ (K.state sink.old).place }
 {
     sink.write(b"ab") == Err(Refusal::Failed)
 }
 
 /// Reads three times: which of the reads failed.
 fn three_reads<S: Source>(source: &mut S) -> [bool; 3]
-    ensures { S.place source.new ≡ S.place source.old }
+    ensures { (S.state source.new).place ≡ (S.state source.old).place }
 {
     let first = read_fails(source);
     let second = read_fails(source);

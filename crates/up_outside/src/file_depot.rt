@@ -1,4 +1,4 @@
-ghost use Rattle.std.specs.Prelude.{◌≡◌, ◌↔◌, ◌≤◌, None};
+ghost use Rattle.std.specs.Prelude.{◌≡◌, ◌↔◌, ◌≤◌};
 ghost use Rattle.std.specs.IoError.{error_kind};
 ghost use Rattle.up_outside.specs.Counts.{Rose};
 
@@ -62,19 +62,13 @@ impl<'r, R: Files<File = File>> FileDepot<'r, R> {
 }
 
 impl<'r, R: Files<File = File>> Depot for FileDepot<'r, R> {
-    ghost use Rattle.up_outside.specs.Adapters.{file_source_faults, file_sink_faults};
+    ghost use Rattle.up_outside.specs.Adapters.{file_depot_state};
 
     type Src = ReaderSource<File>;
 
     type Snk = WriterSink<File>;
 
-    ghost held = { λ _. None };
-
-    ghost asked = { λ _. None };
-
-    ghost source_faults = { λ d. file_source_faults d };
-
-    ghost sink_faults = { λ d. file_sink_faults d };
+    ghost state = { file_depot_state };
 
     fn open_source(&mut self, path: &str) -> Result<ReaderSource<File>, Refusal> {
         match OpenOptions::new().read(true).open(self.rt, path) {

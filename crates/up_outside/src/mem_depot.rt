@@ -1,7 +1,7 @@
 ghost use Rattle.std.specs.Prelude.{◌≡◌, ◌<◌, ◌+◌, ◌++◌, ◌∷◌, ◌^◌, ◌-◌, [], ℕ, List, Some, None, nat_lt, true, false, not, ◌||◌};
 ghost use Rattle.std.specs.Prelude.{is_ok, is_err, IfOk, OnOk, OnErr, MatchOption};
 ghost use Rattle.std.specs.FinMap as map;
-ghost use Rattle.up_outside.specs.Asked.{IsOpenAt, Closes};
+ghost use Rattle.up_outside.specs.Asked.{IsOpenAt, Closes, source_ending, sink_ending};
 ghost use Rattle.up_outside.specs.Counts.{is_failed, CountsWhere};
 ghost use Rattle.up_outside.specs.Failures.{failure, calls_made};
 ghost use Rattle.up_outside.specs.Held.{KeepsOthers};
@@ -35,8 +35,8 @@ impl MemDepot {
     ghost use Rattle.up_outside.specs.MemDepot.{depot_source_faults, depot_sink_faults, AsksNothing, KeepsRules};
     ghost use Rattle.up_outside.specs.MemDepot.{depot_is_due, source_fails, FailsWhere, Asks};
     ghost use Rattle.up_outside.specs.MemDepot.{IsNewSource, IsNewSink};
-    ghost use Rattle.up_outside.specs.MemSink.{sink_bytes, sink_moved, sink_place, sink_faults};
-    ghost use Rattle.up_outside.specs.MemSource.{source_moved, source_place, source_faults};
+    ghost use Rattle.up_outside.specs.MemSink.{sink_bytes, sink_place, sink_faults, sink_state};
+    ghost use Rattle.up_outside.specs.MemSource.{source_place, source_faults, source_state};
     ghost use Rattle.up_outside.specs.declared.depot_call.DepotCall.TheVariants.{OpenSink, CloseSink};
 
     /// A depot that holds nothing and was asked nothing. Its reads and writes move all that they can.
@@ -195,7 +195,7 @@ impl MemDepot {
         ensures emptied { OnOk result
             (depot_held self.new ≡ map.insert (depot_held self.old) path.now []) }
         ensures refused { is_failed result ≡ true → depot_held self.new ≡ depot_held self.old }
-        ensures others { KeepsOthers (depot_held self.old) (Some (depot_held self.new)) path.now }
+        ensures others { KeepsOthers path.now (depot_held self.old) (depot_held self.new) }
         ensures rules { KeepsRules self.old self.new }
     {
         if self.is_due(DepotCall::OpenSink, path) {
@@ -213,9 +213,8 @@ impl MemDepot {
     fn take_source(&mut self, source: MemSource)
         requires { (path : List ℕ)
             × IsOpenAt (depot_asked self.old) (Some (source_place source)) Side.Source path }
-        ensures asked { Closes (depot_asked self.old) (Some (depot_asked self.new))
-            (Some (source_place source)) (Some (source_moved source))
-            (nat_lt 0 (source_faults source)) true }
+        ensures asked { Closes (source_ending (source_state source))
+            (depot_asked self.old) (depot_asked self.new) }
         ensures counts { CountsWhere (nat_lt 0 (source_faults source))
             (depot_source_faults self.old) (depot_source_faults self.new) }
         ensures sinks { depot_sink_faults self.new ≡ depot_sink_faults self.old }
@@ -243,9 +242,8 @@ impl MemDepot {
         ensures stored { OnOk result (depot_held self.new
             ≡ map.insert (depot_held self.old) path.now (sink_bytes sink)) }
         ensures held { OnErr result (depot_held self.new ≡ depot_held self.old) }
-        ensures asked { Closes (depot_asked self.old) (Some (depot_asked self.new))
-            (Some (sink_place sink)) (Some (sink_moved sink))
-            (nat_lt 0 (sink_faults sink) || not (is_ok result)) (is_ok result) }
+        ensures asked { Closes (sink_ending (sink_state sink) result)
+            (depot_asked self.old) (depot_asked self.new) }
         ensures counts { CountsWhere (nat_lt 0 (sink_faults sink) || not (is_ok result))
             (depot_sink_faults self.old) (depot_sink_faults self.new) }
         ensures sources { depot_source_faults self.new ≡ depot_source_faults self.old }
@@ -266,20 +264,13 @@ impl MemDepot {
 }
 
 impl Depot for MemDepot {
-    ghost use Rattle.up_outside.specs.MemDepot.{depot_held, depot_asked};
-    ghost use Rattle.up_outside.specs.MemDepot.{depot_source_faults, depot_sink_faults};
+    ghost use Rattle.up_outside.specs.MemDepot.{depot_state};
 
     type Src = MemSource;
 
     type Snk = MemSink;
 
-    ghost held = { λ d. Some (depot_held d) };
-
-    ghost asked = { λ d. Some (depot_asked d) };
-
-    ghost source_faults = { λ d. depot_source_faults d };
-
-    ghost sink_faults = { λ d. depot_sink_faults d };
+    ghost state = { depot_state };
 
     fn open_source(&mut self, path: &str) -> Result<MemSource, Refusal> {
         self.give_source(path)

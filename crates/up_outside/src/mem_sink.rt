@@ -110,15 +110,9 @@ impl MemSink {
 }
 
 impl Sink for MemSink {
-    ghost use Rattle.up_outside.specs.MemSink.{sink_bytes, sink_moved, sink_place, sink_faults};
+    ghost use Rattle.up_outside.specs.MemSink.{sink_state};
 
-    ghost written = { λ k. Some (sink_bytes k) };
-
-    ghost place = { λ k. Some (sink_place k) };
-
-    ghost moved = { λ k. Some (sink_moved k) };
-
-    ghost faults = { λ k. sink_faults k };
+    ghost state = { sink_state };
 
     ghost together = { λ _. refl };
 

@@ -1,8 +1,8 @@
-ghost use Rattle.std.specs.Prelude.{◌≡◌, ◌<◌, ◌≤◌, Some, length, min, take, refl, is_err, IfOk};
+ghost use Rattle.std.specs.Prelude.{◌≡◌, ◌<◌, ◌≤◌, ◌+◌, Some, length, min, take, refl, is_err, IfOk};
 ghost use Rattle.std.specs.Io.KnownBytes.{ReadConsumes};
 ghost use Rattle.up_outside.specs.Counts.{CountsWhere};
 ghost use Rattle.up_outside.specs.ObjectCalls.{calls_from, next_is_due, counted};
-ghost use Rattle.up_outside.specs.Streams.{Counts};
+ghost use Rattle.up_outside.specs.Moves.{count_of};
 
 use crate::Source;
 use crate::object_calls::ObjectCalls;
@@ -60,7 +60,7 @@ impl MemSource {
             ≡ min (min (length (source_left self.old)) (length room.new)) (source_most self.old)) }
         ensures bytes { ReadConsumes
             (Some (source_left self.old)) (Some (source_left self.new)) result room.new }
-        ensures sum { Counts (Some (source_moved self.old)) (Some (source_moved self.new)) result }
+        ensures sum { source_moved self.new ≡ source_moved self.old + count_of result }
         ensures fails { is_err result ≡ next_is_due (source_calls self.old) }
         ensures calls { source_calls self.new ≡ counted (is_err result) (source_calls self.old) }
         ensures counts { CountsWhere (is_err result)
@@ -101,15 +101,9 @@ impl MemSource {
 }
 
 impl Source for MemSource {
-    ghost use Rattle.up_outside.specs.MemSource.{source_left, source_moved, source_place, source_faults};
+    ghost use Rattle.up_outside.specs.MemSource.{source_state};
 
-    ghost left = { λ s. Some (source_left s) };
-
-    ghost place = { λ s. Some (source_place s) };
-
-    ghost moved = { λ s. Some (source_moved s) };
-
-    ghost faults = { λ s. source_faults s };
+    ghost state = { source_state };
 
     ghost together = { λ _. refl };
 

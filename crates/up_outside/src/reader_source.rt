@@ -33,13 +33,7 @@ impl<R: Read + Drop> ReaderSource<R> {
 impl<R: Read + Drop> Source for ReaderSource<R> {
     ghost use Rattle.up_outside.specs.Adapters.{reader_of, reader_faults};
 
-    ghost left = { λ s. R.remaining (reader_of s) };
-
-    ghost place = { λ _. None };
-
-    ghost moved = { λ _. None };
-
-    ghost faults = { λ s. reader_faults s };
+    ghost state = { λ s. record { left = R.remaining (reader_of s); place = None; moved = None; faults = reader_faults s } };
 
     ghost together = { λ _. refl };
 

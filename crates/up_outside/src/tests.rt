@@ -9,14 +9,14 @@ use up_base::{Failed, Refusal};
 
 /// Reads once.
 fn read_once<S: Source>(source: &mut S, room: &mut [u8; 4]) -> Result<usize, Failed>
-    ensures { S.place source.new ≡ S.place source.old }
+    ensures { (S.state source.new).place ≡ (S.state source.old).place }
 {
     source.read(room)
 }
 
 /// Writes once.
 fn write_once<K: Sink>(sink: &mut K, piece: &[u8; 2]) -> Result<usize, Refusal>
-    ensures { K.place sink.new ≡ K.place sink.old }
+    ensures { (K.state sink.new).place ≡ (K.state sink.old).place }
 {
     sink.write(piece)
 }

@@ -39,13 +39,7 @@ impl<W: Write + Drop> WriterSink<W> {
 impl<W: Write + Drop> Sink for WriterSink<W> {
     ghost use Rattle.up_outside.specs.Adapters.{writer_of, writer_faults};
 
-    ghost written = { λ k. W.contents (writer_of k) };
-
-    ghost place = { λ _. None };
-
-    ghost moved = { λ _. None };
-
-    ghost faults = { λ k. writer_faults k };
+    ghost state = { λ k. record { written = W.contents (writer_of k); place = None; moved = None; faults = writer_faults k } };
 
     ghost together = { λ _. refl };
 

@@ -1,13 +1,14 @@
+use Rattle.std.proofs.Common.{refl}
 use Rattle.up_outside.proofs.Rooms.{rooms-insert, rooms-close}
 use Rattle.up_outside.proofs.mem_depot.MemDepot.take_sink.Goals as goal
 
 pub invariant_of-self-clause-rooms : goal.invariant_of-self-clause-rooms
 invariant_of-self-clause-rooms c =
     let closes = rw c.place.ensures at c.close_entry.ensures in
-    rooms-close c.args.self.now.held c.args.self.now.asked.items c.close_entry.new.asked.items _ _ _ c.args.path.now _ _ c.args.self.now.rooms c.requires closes
+    rooms-close c.args.self.now.held c.args.self.now.asked.items c.close_entry.new.asked.items _ _ _ c.args.path.now c.args.self.now.rooms c.requires refl closes
 
 pub invariant_of-self-2-clause-rooms : goal.invariant_of-self-2-clause-rooms
 invariant_of-self-2-clause-rooms c =
     let closes = rw c.place.ensures at c.close_entry.ensures in
-    let rooms = rooms-close c.args.self.now.held c.args.self.now.asked.items c.close_entry.new.asked.items _ _ _ c.args.path.now _ _ c.args.self.now.rooms c.requires closes in
+    let rooms = rooms-close c.args.self.now.held c.args.self.now.asked.items c.close_entry.new.asked.items _ _ _ c.args.path.now c.args.self.now.rooms c.requires refl closes in
     rw c.replace.ensures (rooms-insert c.args.self.now.held c.close_entry.new.asked.items c.args.path.now c.into_bytes.result rooms)
