@@ -63,3 +63,12 @@ fresh_stays before now fresh counts = rw (counts.stays refl ∙ fresh) refl
 
 pub fresh_rose : (before now : ℕ) → CountsWhere true before now → nat_lt 0 now ≡ true
 fresh_rose before now counts = lt-ltb 0 now (let rose = counts.rose refl in omega arith)
+
+-- whether an object that had no fault has one
+pub same_flag : (failed : Bool) (before now : ℕ) → before ≡ 0 → CountsWhere failed before now → nat_lt 0 now ≡ failed
+same_flag true before now fresh counts = fresh_rose before now counts
+same_flag false before now fresh counts = fresh_stays before now fresh counts
+
+pub still_counted : (a : Option ℕ) → Then (λ before after. after ≡ before + 0) a a
+still_counted None = tt
+still_counted (Some x) = omega arith

@@ -3,6 +3,11 @@ pub mod Counting
 pub mod Drained
 pub mod Ends
 pub mod Entries
+pub mod Flows
+pub mod Folds
+pub mod Kept
 pub mod Moved
+pub mod Pairs
 pub mod Parts
+pub mod Walks
 pub mod Written

@@ -54,7 +54,7 @@ pub record HasNoGraph (before : Held) (path : List ℕ) (refusal : GraphRefused)
 pub record EndsRefused (before after : List Entry) : Type 0 where
   pub front : List Entry
   pub path : List ℕ
-  pub told : after ≡ before ++ front ++ entry path Sink Refused ∷ []
+  pub told : after ≡ before ++ (front ++ entry path Sink Refused ∷ [])
 
 -- a sink, which stands last, is blamed only where the source is whole, or where the sink's open was refused
 abbrev pub IsToBlame : Held → DepotState → DepotState → List Pipe → Type 0

@@ -20,7 +20,7 @@ pub fn carry_path<D: Depot>(
 ) -> Verdict
     requires block { 0 < block }
     requires limit { limit ≤ 2 ^ 40 }
-    ensures walks { Walks from.now to.now limit (D.state depot.old) (D.state depot.new) result }
+    ensures { Walks from.now to.now limit (D.state depot.old) (D.state depot.new) result }
 {
     let Ok(mut room) = vec![in alloc; 0u8; block as usize] else {
         return Verdict::NoMemory;
