@@ -1,4 +1,6 @@
 pub mod AskedTexts
+pub mod AsksWalks
+pub mod ChainPaths
 pub mod Counting
 pub mod Drained
 pub mod Ends
@@ -9,5 +11,9 @@ pub mod Kept
 pub mod Moved
 pub mod Pairs
 pub mod Parts
+pub mod RunFiles
+pub mod RunGraphs
+pub mod Texts
 pub mod Walks
+pub mod WholeChains
 pub mod Written

@@ -1,5 +1,5 @@
 -- What a run asked of its depot, and what became of it.
-use Rattle.std.specs.Prelude.{◌≡◌, ℕ, ◌+◌, ◌<◌, ◌≤◌, List, [], ◌∷◌, ◌++◌, map, slice_get, Bool, true, false, not, ◌&&◌, Option, Some, IfSome}
+use Rattle.std.specs.Prelude.{◌≡◌, ℕ, suc, ◌+◌, ◌<◌, ◌≤◌, List, [], ◌∷◌, ◌++◌, map, slice_get, Bool, true, false, not, ◌&&◌, Option, Some, IfSome}
 use Rattle.std.specs.List.{AllByRecursion}
 use Rattle.up_model.specs.declared.form.SourceForm.{SourceForm}
 use Rattle.up_model.specs.declared.kind.Kind.TheVariants as kinds
@@ -130,4 +130,4 @@ module _ (path : List ℕ) (held : Option Held) where
     -- of the graph file at most one byte more than the greatest is read
     pub text : (e : Entry) → slice_get grown 0 ≡ Some e → moved_by e.mark ≤ 1048577
     pub sources : IfGraph (λ pipes.
-        (at : ℕ) (e : Entry) → slice_get grown (at + 1) ≡ Some e → ReadsWithin pipes e)
+        (at : ℕ) (e : Entry) → slice_get grown (suc at) ≡ Some e → ReadsWithin pipes e)

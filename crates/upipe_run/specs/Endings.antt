@@ -16,6 +16,16 @@ IsOfText (refusals.TooManyPipes count) = Unit {0}
 IsOfText (refusals.BadField pipe field) = Unit {0}
 IsOfText refusals.NoMemory = ⊥
 
+-- the ending of a run whose graph file was refused
+abbrev pub refused_ending : GraphRefused → Ending
+refused_ending (refusals.TooBig len) = Faulty (Graph (refusals.TooBig len))
+refused_ending refusals.NotToml = Faulty (Graph refusals.NotToml)
+refused_ending (refusals.BadVersion got) = Faulty (Graph (refusals.BadVersion got))
+refused_ending refusals.NoPipes = Faulty (Graph refusals.NoPipes)
+refused_ending (refusals.TooManyPipes count) = Faulty (Graph (refusals.TooManyPipes count))
+refused_ending (refusals.BadField pipe field) = Faulty (Graph (refusals.BadField pipe field))
+refused_ending refusals.NoMemory = NoMemory
+
 -- the ending of a run whose words were taken; today no run prints a report or reads frames
 abbrev pub IsRunEnding : Ending → Type 0
 IsRunEnding Whole = Unit {0}

@@ -1,3 +1,7 @@
+ghost use Rattle.std.specs.Prelude.{◌≡◌};
+ghost use Rattle.upipe_run.specs.Endings.{refused_ending};
+
+use up_graph::GraphRefused;
 use up_report::Fault;
 
 /// How a run ended.
@@ -9,4 +13,14 @@ pub enum Ending {
     Faulty(Fault),
     /// No memory was found.
     NoMemory,
+}
+
+/// The ending of a run whose graph file was refused.
+pub fn refused_ending(refused: GraphRefused) -> Ending
+    ensures { result ≡ refused_ending refused }
+{
+    match refused {
+        GraphRefused::NoMemory => Ending::NoMemory,
+        refused => Ending::Faulty(Fault::Graph(refused)),
+    }
 }

@@ -6,7 +6,7 @@ ghost use Rattle.upipe_run.specs.Seen.{seen};
 ghost use Rattle.upipe_run.specs.WholeOutput.{RanWhole};
 
 use crate::chain::{ChainEnds, ending_of, ends_of};
-use crate::ending::Ending;
+use crate::ending::{Ending, refused_ending};
 use crate::graph_text::read_text;
 use crate::path::carry_path;
 use crate::tell::{tell, tell_no_memory};
@@ -14,7 +14,7 @@ use std::alloc::Global;
 use std::sync::Wait;
 use std::thread::Threads;
 use up_base::{Refusal, WordList};
-use up_graph::{GraphRefused, read_graph};
+use up_graph::read_graph;
 use up_model::MAX_GRAPH;
 use up_outside::{Depot, Sink};
 use up_report::Fault;
@@ -35,8 +35,7 @@ fn run_file<D: Depot>(alloc: Global, path: &str, depot: &mut D) -> Ending
     };
     let graph = match read_graph(alloc, &text) {
         Ok(graph) => graph,
-        Err(GraphRefused::NoMemory) => return Ending::NoMemory,
-        Err(refused) => return Ending::Faulty(Fault::Graph(refused)),
+        Err(refused) => return refused_ending(refused),
     };
     let ChainEnds {
         from,
