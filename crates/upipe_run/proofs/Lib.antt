@@ -13,7 +13,11 @@ pub mod Pairs
 pub mod Parts
 pub mod RunFiles
 pub mod RunGraphs
+pub mod RunLaws
+pub mod StopExamples
+pub mod Stops
 pub mod Texts
 pub mod Walks
 pub mod WholeChains
+pub mod WordsLost
 pub mod Written

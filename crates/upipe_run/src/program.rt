@@ -72,7 +72,6 @@ pub fn run_single<D: Depot, K: Sink, E: Sink>(
         let new = seen (D.state depot.new) (K.state out.new) (E.state err.new) in
         IsExplained graph.now old new result }
 {
-    let _ = (pool, out);
     match run_file(alloc, graph, depot) {
         Ending::Whole => 0,
         Ending::Faulty(fault) => tell(alloc, err, &fault),
@@ -94,7 +93,6 @@ pub fn run<R: Threads + Wait + Sync, D: Depot, K: Sink, E: Sink>(
         (seen (D.state depot.new) (K.state out.new) (E.state err.new)) result }
     ensures usage_leaves { job_of words.now ≡ None → depot.new ≡ depot.old }
 {
-    let _ = rt;
     match read_words(alloc, words) {
         Ok(Job::Run { graph }) => run_single(alloc, graph.as_str(), false, depot, out, err),
         Err(WordsRefused::Usage) => tell(alloc, err, &Fault::Usage),
