@@ -8,7 +8,7 @@ fn a_fault_is_told_and_its_status_answered(rt: HostRuntime) -> Result<(), Fail> 
     let alloc = rt.alloc();
     let mut err = MemSink::new(alloc);
     assert_eq!(rt; tell(alloc, &mut err, &Fault::ReadGraph), 4);
-    assert_eq!(rt; tell(alloc, &mut err, &Fault::NoMemory), 7);
+    assert_eq!(rt; tell_no_memory(&mut err), 7);
     assert_eq!(rt;
         err.bytes(),
         b"upipe: read fault: graph\nupipe: out of memory\n".as_slice()
