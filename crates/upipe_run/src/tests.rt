@@ -374,16 +374,16 @@ fn each_status_tells_its_line_and_leaves_the_sink(rt: HostRuntime) -> Result<(),
 #[test]
 fn a_run_asks_in_order_and_reads_one_byte_beyond_the_limit(rt: HostRuntime) -> Result<(), Fail> {
     let alloc = rt.alloc();
-    let text = chain_text(alloc, &[], ", limit = 10, block = 7")?;
+    let text = chain_text(alloc, &[], ", limit = 5000")?;
     let mut depot = depot_of(alloc, text.as_bytes())?;
-    depot.hold("i", &numbered_bytes(alloc, 100)?)?;
+    depot.hold("i", &numbered_bytes(alloc, 10_000)?)?;
     assert_eq!(rt; status_of(&rt, alloc, &RUN, &mut depot)?, 8);
     let asked = depot.asked();
     let size = text.len() as u64;
     let wanted = [
         ("g.toml", Side::Source, size),
-        ("i", Side::Source, 11),
-        ("o", Side::Sink, 7),
+        ("i", Side::Source, 5_001),
+        ("o", Side::Sink, 4_096),
     ];
     assert_eq!(rt; asked.len(), 3);
     for (entry, (path, side, moved)) in asked.iter().zip(wanted) {
