@@ -49,7 +49,8 @@ calls_made call path asked = count_by (shows call path) asked
 
 -- whether the table has such a call on the path with this number
 abbrev pub is_due : DepotCall → List ℕ → ℕ → List Failure → Bool
-is_due call path number rows = list_any (λ row. is_such call path row && (row.number == number)) rows
+is_due call path number rows =
+    list_any (λ row. is_such call path row && (row.number == number)) rows
 
 -- the numbers of such calls on the path that the table has
 abbrev pub numbers_of : DepotCall → List ℕ → List Failure → List ℕ

@@ -49,11 +49,13 @@ pub record KeepsRules (old new : MemDepot) : Type 0 where
 
 -- whether the next such call on the path is one that fails
 abbrev pub depot_is_due : DepotCall → List ℕ → MemDepot → Bool
-depot_is_due call path d = is_due call path (calls_made call path (depot_asked d) + 1) (depot_failures d)
+depot_is_due call path d =
+    is_due call path (calls_made call path (depot_asked d) + 1) (depot_failures d)
 
 -- whether the open of a source there fails: it is one that fails, or the path isn't held
 abbrev pub source_fails : List ℕ → MemDepot → Bool
-source_fails path d = depot_is_due calls.OpenSource path d || not (is_some (get (depot_held d) path))
+source_fails path d =
+    depot_is_due calls.OpenSource path d || not (is_some (get (depot_held d) path))
 
 -- the call failed where it had to, and want of memory alone came instead
 abbrev pub FailsWhere : {T : Type 0} → Bool → Result T Refusal → Type 0

@@ -25,7 +25,10 @@ next_is_due calls = list_any (λ number. number == raised true calls.made) (fail
 
 -- one more call was made, and failed or not
 abbrev pub counted : Bool → ObjectCalls → ObjectCalls
-counted failed calls = record calls { made = raised true calls.made; faults = raised failed calls.faults }
+counted failed calls = record calls {
+  made = raised true calls.made;
+  faults = raised failed calls.faults;
+}
 
 -- what a call leaves: one for which no memory was found isn't counted
 abbrev pub after_call : {T : Type 0} → Result T Refusal → ObjectCalls → ObjectCalls
