@@ -16,8 +16,10 @@ module _ (old new : DepotState) where
     pub sinks : CountsWhere (is_of_sink side && failed) old.sink_faults new.sink_faults
 
   -- an open: its entry was added, and its fault counted
-  pub record AsksFor {T : Type 0} (side : Side) (path : List ℕ) (result : Result T Refusal) : Type 0 where
-    pub entries : Then (λ before after. after ≡ before ++ opened result path side) old.asked new.asked
+  pub record AsksFor {T : Type 0} (side : Side) (path : List ℕ)
+      (result : Result T Refusal) : Type 0 where
+    pub entries : Then (λ before after. after ≡ before ++ opened result path side)
+        old.asked new.asked
     pub counts : CountsFaults side (is_failed result)
 
   -- a close: its entry says what was moved and whether something failed, which is counted

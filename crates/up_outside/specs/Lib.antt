@@ -1,15 +1,9 @@
-pub mod Adapters
 pub mod Asked
 pub mod Counts
 pub mod DepotCalls
-pub mod Failures
 pub mod Held
-pub mod HeldFiles
-pub mod MemDepot
-pub mod MemSink
-pub mod MemSource
+pub mod Memory
 pub mod Moves
-pub mod ObjectCalls
-pub mod Rooms
 pub mod States
+pub mod System
 pub mod Told
