@@ -17,7 +17,8 @@ is_plain byte = is_within 0x20 0x7e byte && not (byte == 92)
 
 -- another byte is printed as `\x` and its two digits
 abbrev pub escape : ℕ → List ℕ
-escape byte = if is_plain byte then byte ∷ [] else 92 ∷ 120 ∷ hex_digit (byte / 16) ∷ hex_digit (byte % 16) ∷ []
+escape byte =
+    if is_plain byte then byte ∷ [] else 92 ∷ 120 ∷ hex_digit (byte / 16) ∷ hex_digit (byte % 16) ∷ []
 
 abbrev pub escaped : List ℕ → List ℕ
 escaped text = flat_map escape text
@@ -39,14 +40,17 @@ refusal_text refusals.NoMemory = codes "upipe: out of memory"
 
 -- what is told of a fault
 abbrev pub fault_text : Fault → List ℕ
-fault_text Usage = codes "usage: upipe check GRAPH | upipe run [--single] [--pool] GRAPH | upipe work [--single] N"
+fault_text Usage =
+    codes "usage: upipe check GRAPH | upipe run [--single] [--pool] GRAPH | upipe work [--single] N"
 fault_text (Graph refused) = refusal_text refused
 fault_text ReadGraph = codes "upipe: read fault: graph"
 fault_text (Read pipe) = codes "upipe: read fault: pipe " ++ pipe
 fault_text (Write pipe) = codes "upipe: write fault: pipe " ++ pipe
 fault_text WriteReport = codes "upipe: write fault: report"
-fault_text (BadFrame pipe offset) = codes "upipe: bad frame: pipe " ++ pipe ++ codes " offset " ++ decimal offset
-fault_text (TooLong pipe limit) = codes "upipe: too long: pipe " ++ pipe ++ codes " limit " ++ decimal limit
+fault_text (BadFrame pipe offset) =
+    codes "upipe: bad frame: pipe " ++ pipe ++ codes " offset " ++ decimal offset
+fault_text (TooLong pipe limit) =
+    codes "upipe: too long: pipe " ++ pipe ++ codes " limit " ++ decimal limit
 
 -- the fault's line, ended by a line feed
 abbrev pub fault_bytes : Fault → List ℕ

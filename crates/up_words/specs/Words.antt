@@ -14,7 +14,8 @@ is_positional (byte ∷ bytes) = if byte == 45 then false else true
 
 -- `run` and one path are taken, and nothing else
 abbrev pub job_of : List (List ℕ) → Option Job
-job_of (first ∷ path ∷ []) = if bytes_eq first (codes "run") && is_positional path then Some (Run path) else None
+job_of (first ∷ path ∷ []) =
+    if bytes_eq first (codes "run") && is_positional path then Some (Run path) else None
 job_of words = None
 
 -- the job was read, or the words aren't taken; memory runs out only for words that are taken

@@ -63,7 +63,8 @@ StopsWell (e ∷ grown) (ask ∷ asks) = (ask_of e ≡ ask) × GoesOn e.mark gro
 
 -- the entries before the place are clean
 abbrev pub CleanBefore : ℕ → List Entry → Type 0
-CleanBefore place grown = (at : ℕ) (e : Entry) → at < place → slice_get grown at ≡ Some e → is_clean e.mark ≡ true
+CleanBefore place grown =
+    (at : ℕ) (e : Entry) → at < place → slice_get grown at ≡ Some e → is_clean e.mark ≡ true
 
 -- the entry at the place has failed, and none before it
 pub record Blames (place : ℕ) (grown : List Entry) : Type 0 where
@@ -83,7 +84,8 @@ MarksEnding (Faulty (Read pipe)) grown = Blames 1 grown
 MarksEnding (Faulty (Write pipe)) grown = Blames 2 grown
 MarksEnding (Faulty WriteReport) grown = ⊥
 MarksEnding (Faulty (BadFrame pipe offset)) grown = ⊥
-MarksEnding (Faulty (TooLong pipe limit)) grown = CleanBefore 2 grown × AllMarks is_refused false grown
+MarksEnding (Faulty (TooLong pipe limit)) grown =
+    CleanBefore 2 grown × AllMarks is_refused false grown
 MarksEnding NoMemory grown = AllMarks is_refused false grown
 
 -- no entry stays open, unless memory ran out
@@ -114,7 +116,8 @@ module _ (path : List ℕ) (held : Option Held) where
   Stops (Faulty (Write pipe)) grown = IfGraph (λ pipes. StopsWell grown (asks_of path pipes))
   Stops (Faulty WriteReport) grown = ⊥
   Stops (Faulty (BadFrame pipe offset)) grown = ⊥
-  Stops (Faulty (TooLong pipe limit)) grown = IfGraph (λ pipes. StopsWell grown (asks_of path pipes))
+  Stops (Faulty (TooLong pipe limit)) grown =
+      IfGraph (λ pipes. StopsWell grown (asks_of path pipes))
   Stops NoMemory grown = Unit {0}
 
   -- entries were added for what was asked
@@ -123,7 +126,8 @@ module _ (path : List ℕ) (held : Option Held) where
     pub told : after ≡ before ++ grown
     pub prefix : IfGraph (λ pipes. IsPrefixOf (map ask_of grown) (asks_of path pipes))
     -- where the text has no graph, the graph file alone
-    pub alone : IfSome held (λ m. WithoutGraph m path (IsPrefixOf (map ask_of grown) ((path, Source) ∷ [])))
+    pub alone : IfSome held (λ m.
+        WithoutGraph m path (IsPrefixOf (map ask_of grown) ((path, Source) ∷ [])))
     pub stops : Stops ending grown
     pub none_open : NoneOpen ending grown
     pub marks : MarksEnding ending grown

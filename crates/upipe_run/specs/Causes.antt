@@ -27,7 +27,8 @@ abbrev pub IsNamed : List Pipe → ℕ → List ℕ → Type 0
 IsNamed pipes place name = (pipe : Pipe) × (slice_get pipes place ≡ Some pipe) × (pipe.name ≡ name)
 
 -- the pipe at a place is a source with this limit, and the bytes at its path give it this outcome
-pub record HasOutcome (before : Held) (pipes : List Pipe) (place limit : ℕ) (outcome : Outcome) : Type 0 where
+pub record HasOutcome (before : Held) (pipes : List Pipe) (place limit : ℕ)
+    (outcome : Outcome) : Type 0 where
   pub pipe : Pipe
   pub at : slice_get pipes place ≡ Some pipe
   pub path : List ℕ
@@ -59,10 +60,11 @@ pub record EndsRefused (before after : List Entry) : Type 0 where
 -- a sink, which stands last, is blamed only where the source is whole, or where the sink's open was refused
 abbrev pub IsToBlame : Held → DepotState → DepotState → List Pipe → Type 0
 IsToBlame before old new pipes =
-    ((limit : ℕ) × HasOutcome before pipes 0 limit outcomes.Whole) ⊎ Then EndsRefused old.asked new.asked
+    ((limit : ℕ) × HasOutcome before pipes 0 limit outcomes.Whole)
+    ⊎ Then EndsRefused old.asked new.asked
 
--- a source is told to be too long only where the bytes at its path are
 module _ (path : List ℕ) (old new : DepotState) (before : Held) where
+  -- what the bytes, and the entries that were added, say of an ending
   abbrev pub HasBytesCause : Ending → Type 0
   HasBytesCause Whole = Unit {0}
   HasBytesCause (Faulty Usage) = ⊥
@@ -70,11 +72,13 @@ module _ (path : List ℕ) (old new : DepotState) (before : Held) where
   HasBytesCause (Faulty ReadGraph) = Unit {0}
   HasBytesCause (Faulty (Read name)) = IsOfGraph before path (λ graph. IsNamed graph.pipes 0 name)
   HasBytesCause (Faulty (Write name)) =
-      IsOfGraph before path (λ graph. IsNamed graph.pipes (length graph.pipes - 1) name × IsToBlame before old new graph.pipes)
+      IsOfGraph before path (λ graph. IsNamed graph.pipes (length graph.pipes - 1) name
+      × IsToBlame before old new graph.pipes)
   HasBytesCause (Faulty WriteReport) = ⊥
   HasBytesCause (Faulty (BadFrame name offset)) = ⊥
   HasBytesCause (Faulty (TooLong name limit)) =
-      IsOfGraph before path (λ graph. IsNamed graph.pipes 0 name × HasOutcome before graph.pipes 0 limit (outcomes.TooLong limit))
+      IsOfGraph before path (λ graph. IsNamed graph.pipes 0 name
+      × HasOutcome before graph.pipes 0 limit (outcomes.TooLong limit))
   HasBytesCause NoMemory = Unit {0}
 
 -- the graph file decides, where its text has no graph

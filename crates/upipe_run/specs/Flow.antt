@@ -36,7 +36,8 @@ pub record IsSameSink (old new : SinkState) : Type 0 where
   pub sum : Then (λ before after. Unit {0}) old.moved new.moved
 
 -- a prefix of the piece was written: all of it where the sink still works, and nothing where it had failed
-pub record Puts (old new : Option (List ℕ)) (piece : List ℕ) (had_failed has_failed : Bool) : Type 0 where
+pub record Puts (old new : Option (List ℕ)) (piece : List ℕ)
+    (had_failed has_failed : Bool) : Type 0 where
   pub put : List ℕ
   pub appended : Appends old new put
   pub prefix : IsPrefixOf put piece
@@ -44,7 +45,8 @@ pub record Puts (old new : Option (List ℕ)) (piece : List ℕ) (had_failed has
   pub nothing : had_failed ≡ true → put ≡ []
 
 -- so many bytes were taken, and a prefix of them was written: all of them where the flow is complete
-pub record Moves (old_left new_left old_written new_written : Option (List ℕ)) (complete : Bool) (count : ℕ) : Type 0 where
+pub record Moves (old_left new_left old_written new_written : Option (List ℕ))
+    (complete : Bool) (count : ℕ) : Type 0 where
   pub taken : List ℕ
   pub put : List ℕ
   pub consumed : Consumes old_left new_left taken
@@ -76,7 +78,8 @@ source_failed (Err refused) = false
 pub record Carries (old_source new_source : SourceState) (old_sink new_sink : SinkState) (limit : ℕ)
     (result : Result FlowEnd NoMemory) : Type 0 where
   pub count : ℕ
-  pub moves : Moves old_source.left new_source.left old_sink.written new_sink.written (is_complete result) count
+  pub moves : Moves old_source.left new_source.left old_sink.written new_sink.written
+      (is_complete result) count
   pub sum : Then (λ before after. after ≡ before + count) old_source.moved new_source.moved
   pub within : count ≤ limit + 1
   pub whole : IfOk result (λ flow. flow.source ≡ Whole → IsAtEnd new_source.left × (count ≤ limit))

@@ -17,7 +17,8 @@ pub record IsStartAt (path : List ℕ) (most : ℕ) (text : List ℕ) (before : 
 
 -- the file was closed, of which at most so many bytes were read: without a fault where it was read, else with one, or
 -- its open was refused; for want of memory it wasn't opened
-abbrev pub AsksText : {A : Type 0} → List ℕ → ℕ → Result A Refusal → List Entry → List Entry → Type 0
+abbrev pub AsksText : {A : Type 0} → List ℕ → ℕ → Result A Refusal
+    → List Entry → List Entry → Type 0
 AsksText path most (Ok text) before after =
     (n : ℕ) × (n ≤ most) × (after ≡ before ++ entry path Source (Closed n false true) ∷ [])
 AsksText path most (Err refusals.Failed) before after =

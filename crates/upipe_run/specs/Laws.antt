@@ -16,7 +16,8 @@ IsRunStatus status =
 
 -- where the text at the path has no graph, the status is 3, that of a read fault, or that of want of memory
 abbrev pub SettlesStatus : List ℕ → ℕ → Held → Type 0
-SettlesStatus path status before = WithoutGraph before path ((status ≡ 3) ⊎ ((status ≡ 4) ⊎ (status ≡ 7)))
+SettlesStatus path status before =
+    WithoutGraph before path ((status ≡ 3) ⊎ ((status ≡ 4) ⊎ (status ≡ 7)))
 
 -- where every source is whole and no count rose, the run is whole, or memory ran out
 abbrev pub Completes : List ℕ → Seen → Seen → ℕ → Held → Type 0
@@ -27,4 +28,5 @@ Completes path old new status before =
 -- every path of the graph was asked for, in order
 abbrev pub AsksAll : List ℕ → Held → List Entry → List Entry → Type 0
 AsksAll path held before after = OfGraph held path (λ graph.
-    (grown : List Entry) × (after ≡ before ++ grown) × (map ask_of grown ≡ asks_of path graph.pipes))
+    (grown : List Entry) × (after ≡ before ++ grown)
+    × (map ask_of grown ≡ asks_of path graph.pipes))

@@ -17,9 +17,11 @@ pub record IsOfGraph (before : Held) (path : List ℕ) (IsSo : Graph → Type 0)
 -- so it is of the graph of the text at the path, where there is one
 abbrev pub OfGraph : Held → List ℕ → (Graph → Type 0) → Type 0
 OfGraph before path IsSo =
-    (text : List ℕ) (graph : Graph) → get before path ≡ Some text → graph_of text ≡ Ok graph → IsSo graph
+    (text : List ℕ) (graph : Graph) → get before path ≡ Some text → graph_of text ≡ Ok graph
+    → IsSo graph
 
 -- this is so where the text at the path has no graph
 abbrev pub WithoutGraph : Held → List ℕ → Type 0 → Type 0
 WithoutGraph before path IsSo =
-    (text : List ℕ) (refusal : GraphRefused) → get before path ≡ Some text → graph_of text ≡ Err refusal → IsSo
+    (text : List ℕ) (refusal : GraphRefused) → get before path ≡ Some text → graph_of text ≡ Err refusal
+    → IsSo

@@ -29,4 +29,5 @@ asks_of path pipes = (path, sides.Source) ∷ asks_on sides.Source pipes ++ asks
 -- no pipe is a sink on this path
 abbrev pub IsNoSinkPath : List Pipe → List ℕ → Type 0
 IsNoSinkPath pipes path =
-    (place : ℕ) (pipe : Pipe) → slice_get pipes place ≡ Some pipe → path_on sides.Sink pipe.kind ≢ Some path
+    (place : ℕ) (pipe : Pipe) → slice_get pipes place ≡ Some pipe
+    → path_on sides.Sink pipe.kind ≢ Some path

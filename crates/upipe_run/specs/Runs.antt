@@ -21,7 +21,8 @@ use Rattle.upipe_run.specs.declared.ending.Ending.{Ending}
 -- every path that is no sink's of the graph has what it had
 abbrev pub KeepsOtherPaths : List ℕ → Held → Held → Type 0
 KeepsOtherPaths path before after =
-    (other : List ℕ) → OfGraph before path (λ graph. IsNoSinkPath graph.pipes other) → get after other ≡ get before other
+    (other : List ℕ) → OfGraph before path (λ graph. IsNoSinkPath graph.pipes other)
+    → get after other ≡ get before other
 
 -- the ending has its cause in the bytes, in what was asked and in the counts
 pub record HasCauses (path : List ℕ) (old new : DepotState) (ending : Ending) : Type 0 where

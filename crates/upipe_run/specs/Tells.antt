@@ -17,7 +17,8 @@ module _ (old new : SinkState) where
 
   -- the line was written, or a prefix of it before the sink failed
   abbrev pub WritesLine : List ℕ → Type 0
-  WritesLine line = Appends old.written new.written line ⊎ (AppendsPrefix line × Rose old.faults new.faults)
+  WritesLine line =
+      Appends old.written new.written line ⊎ (AppendsPrefix line × Rose old.faults new.faults)
 
   -- The status and the line are the fault's. Where memory runs out for the line, the status is 7, and a prefix of it or
   -- of the line of want of memory was written.

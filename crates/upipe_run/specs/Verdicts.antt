@@ -36,7 +36,8 @@ Names pipes limit Whole ending = ending ≡ endings.Whole
 Names pipes limit ReadFault ending =
     (name : List ℕ) × IsNamed pipes 0 name × (ending ≡ endings.Faulty (faults.Read name))
 Names pipes limit WriteFault ending =
-    (name : List ℕ) × IsNamed pipes (length pipes - 1) name × (ending ≡ endings.Faulty (faults.Write name))
+    (name : List ℕ) × IsNamed pipes (length pipes - 1) name
+    × (ending ≡ endings.Faulty (faults.Write name))
 Names pipes limit TooLong ending =
     (name : List ℕ) × IsNamed pipes 0 name × (ending ≡ endings.Faulty (faults.TooLong name limit))
 Names pipes limit NoMemory ending = ending ≡ endings.NoMemory

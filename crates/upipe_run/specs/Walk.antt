@@ -45,7 +45,8 @@ module _ (from to : List ℕ) (limit : ℕ) where
     pub read : ℕ
     pub within : read ≤ limit + 1
     pub written : ℕ
-    pub is : grown ≡ entry from Source (Closed read failed true) ∷ entry to Sink (Closed written sink_failed shut) ∷ []
+    pub is : grown ≡ entry from Source (Closed read failed true)
+        ∷ entry to Sink (Closed written sink_failed shut) ∷ []
 
   -- the entries that were added
   abbrev pub WalkEntries : Verdict → List Entry → Type 0
@@ -56,18 +57,21 @@ module _ (from to : List ℕ) (limit : ℕ) where
   WalkEntries WriteFault grown =
       (grown ≡ entry from Source (Closed 0 false true) ∷ entry to Sink Refused ∷ [])
       ⊎ ((shut : Bool) × BothClosed false true shut grown)
-  WalkEntries TooLong grown = (sink_failed : Bool) × (shut : Bool) × BothClosed false sink_failed shut grown
+  WalkEntries TooLong grown =
+      (sink_failed : Bool) × (shut : Bool) × BothClosed false sink_failed shut grown
   WalkEntries NoMemory grown =
       (grown ≡ []) ⊎ ((grown ≡ entry from Source (Closed 0 false true) ∷ [])
       ⊎ ((sink_failed : Bool) × (shut : Bool) × BothClosed false sink_failed shut grown))
 
   abbrev pub AsksWalk : Verdict → List Entry → List Entry → Type 0
-  AsksWalk verdict before after = (grown : List Entry) × (after ≡ before ++ grown) × WalkEntries verdict grown
+  AsksWalk verdict before after =
+      (grown : List Entry) × (after ≡ before ++ grown) × WalkEntries verdict grown
 
   pub record Walks (old new : DepotState) (verdict : Verdict) : Type 0 where
     pub copied : verdict ≡ Whole → Then (IsCopied from to limit) old.held new.held
     pub too_long : verdict ≡ TooLong → IfSome old.held (IsBeyond from limit)
-    pub sink_last : verdict ≡ WriteFault → IfSome old.held (IsWithin from limit) ⊎ Then EndsRefused old.asked new.asked
+    pub sink_last : verdict ≡ WriteFault
+        → IfSome old.held (IsWithin from limit) ⊎ Then EndsRefused old.asked new.asked
     pub others : Then (KeepsOthers to) old.held new.held
     pub asked : Then (AsksWalk verdict) old.asked new.asked
     pub sources : CountsWhere (blames_source verdict) old.source_faults new.source_faults

@@ -14,7 +14,8 @@ use Rattle.upipe_run.specs.Paths.{path_at}
 
 -- the flow of a source, which counts with all of the bytes at its path
 abbrev pub flow_by : Held → Kind → Flow
-flow_by held (Source path form limit) = carried_flow (Source path form limit) (unwrap_or (get held path) [])
+flow_by held (Source path form limit) =
+    carried_flow (Source path form limit) (unwrap_or (get held path) [])
 flow_by held kind = []
 
 abbrev pub flow_of : Held → Option Pipe → Flow
@@ -28,7 +29,8 @@ given_by held pipes place = flow_of held (slice_get pipes place)
 -- a source's path is held, and its bytes are within its limit
 abbrev pub IsWholeSource : Held → Kind → Type 0
 IsWholeSource held (Source path form limit) =
-    (bytes : List ℕ) × (get held path ≡ Some bytes) × (outcome_of (Source path form limit) bytes ≡ Whole)
+    (bytes : List ℕ) × (get held path ≡ Some bytes)
+    × (outcome_of (Source path form limit) bytes ≡ Whole)
 IsWholeSource held kind = Unit {0}
 
 -- a sink's path has these bytes
@@ -38,22 +40,26 @@ IsWholeSink held wanted kind = Unit {0}
 
 -- every source's outcome is whole, and every sink's path has all its bytes
 pub record IsWholeOutput (before after : Held) (pipes : List Pipe) : Type 0 where
-  pub sources : (place : ℕ) (pipe : Pipe) → slice_get pipes place ≡ Some pipe → IsWholeSource before pipe.kind
+  pub sources : (place : ℕ) (pipe : Pipe) → slice_get pipes place ≡ Some pipe
+      → IsWholeSource before pipe.kind
   pub sinks : (place : ℕ) (pipe : Pipe) → slice_get pipes place ≡ Some pipe
       → IsWholeSink after (sink_bytes pipes (given_by before pipes) pipe) pipe.kind
 
 -- the path of the last pipe, a sink, has what the path of the first, a source, had
 abbrev pub Copies : Held → Held → List Pipe → Type 0
 Copies before after pipes =
-    (from to : List ℕ) → path_at sides.Source pipes 0 ≡ Some from → path_at sides.Sink pipes (length pipes - 1) ≡ Some to
+    (from to : List ℕ) → path_at sides.Source pipes 0 ≡ Some from
+    → path_at sides.Sink pipes (length pipes - 1) ≡ Some to
     → get after to ≡ get before from
 
 -- the text at the path has a graph, whose output is whole; a graph of today is one chain, so its bytes are copied
 abbrev pub RanWhole : List ℕ → Held → Held → Type 0
 RanWhole path before after =
-    IsOfGraph before path (λ graph. IsWholeOutput before after graph.pipes × Copies before after graph.pipes)
+    IsOfGraph before path (λ graph. IsWholeOutput before after graph.pipes
+    × Copies before after graph.pipes)
 
 -- the text at the path has a graph, and every source of it is whole
 abbrev pub CanComplete : Held → List ℕ → Type 0
 CanComplete before path = IsOfGraph before path (λ graph.
-    (place : ℕ) (pipe : Pipe) → slice_get graph.pipes place ≡ Some pipe → IsWholeSource before pipe.kind)
+    (place : ℕ) (pipe : Pipe) → slice_get graph.pipes place ≡ Some pipe
+    → IsWholeSource before pipe.kind)

@@ -12,7 +12,8 @@ pub fn drain<K: Sink>(sink: &mut K, piece: &[u8]) -> Result<(), Refusal>
         (Appends (K.state sink.old).written (K.state sink.new).written piece.now) }
     ensures prefix { OnErr result ((n : ℕ) × (n ≤ length piece.now)
         × Appends (K.state sink.old).written (K.state sink.new).written (take n piece.now)) }
-    ensures faults { CountsWhere (is_failed result) (K.state sink.old).faults (K.state sink.new).faults }
+    ensures faults { CountsWhere (is_failed result)
+        (K.state sink.old).faults (K.state sink.new).faults }
     ensures same { IsSameSink (K.state sink.old) (K.state sink.new) }
 {
     let mut count = 0;

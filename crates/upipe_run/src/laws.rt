@@ -23,5 +23,6 @@ pub fn runs_have_statuses()
 pub fn runs_ask_all()
     ensures { (path : List ℕ) (old new : Seen) (status : ℕ) → Runs path old new status
         → (status ≡ 0) ⊎ (status ≡ 8)
-        → IfSome old.depot.held (λ before. Then (AsksAll path before) old.depot.asked new.depot.asked) }
+        → IfSome old.depot.held (λ before.
+        Then (AsksAll path before) old.depot.asked new.depot.asked) }
 {}
