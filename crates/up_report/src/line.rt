@@ -137,10 +137,22 @@ fn fault_text(alloc: Global, fault: &Fault) -> Result<Bytes, NoMemory>
         Fault::Write(pipe) => named(alloc, "upipe: write fault: pipe ", pipe.bytes()),
         Fault::WriteReport => Bytes::from_slice(alloc, b"upipe: write fault: report"),
         Fault::BadFrame { pipe, offset } => {
-            measured(alloc, "upipe: bad frame: pipe ", pipe.bytes(), " offset ", *offset)
+            measured(
+                alloc,
+                "upipe: bad frame: pipe ",
+                pipe.bytes(),
+                " offset ",
+                *offset,
+            )
         }
         Fault::TooLong { pipe, limit } => {
-            measured(alloc, "upipe: too long: pipe ", pipe.bytes(), " limit ", *limit)
+            measured(
+                alloc,
+                "upipe: too long: pipe ",
+                pipe.bytes(),
+                " limit ",
+                *limit,
+            )
         }
     }
 }

@@ -5,7 +5,10 @@ use up_base::{Text, WordList};
 #[test]
 fn only_run_and_one_path_are_a_job(rt: HostRuntime) -> Result<(), Fail> {
     let alloc = rt.alloc();
-    let long: &[&'static str] = &["run", "a path of more than sixty-four bytes, so that it lies in memory of its own"];
+    let long: &[&'static str] = &[
+        "run",
+        "a path of more than sixty-four bytes, so that it lies in memory of its own",
+    ];
     let cases: [(&[&'static str], bool); 12] = [
         (&[], false),
         (&["run"], false),
@@ -31,7 +34,11 @@ fn only_run_and_one_path_are_a_job(rt: HostRuntime) -> Result<(), Fail> {
             Err(WordsRefused::NoMemory) => return Err("no memory".into()),
         };
         let wanted = if taken { words.last().copied() } else { None };
-        assert_eq!(rt; read.as_ref().map(|graph| graph.as_str()), wanted, "{words:?}");
+        assert_eq!(rt;
+            read.as_ref().map(|graph| graph.as_str()),
+            wanted,
+            "{words:?}"
+        );
     }
     Ok(())
 }

@@ -1,5 +1,5 @@
 -- The entry of a file that was opened, read and closed.
-use Rattle.std.proofs.Common.{◌≡◌, ℕ, ◌≤◌, List, [], ◌∷◌, ◌++◌, Bool, true, false, Option, Ok, Err, inr, ◌∙◌}
+use Rattle.std.proofs.Common.{◌≡◌, ℕ, ◌≤◌, List, [], ◌∷◌, ◌++◌, Bool, true, false, Option, Ok, Err, inr}
 use Rattle.up_base.specs.declared.refusal.Refusal.TheVariants.{Failed}
 use Rattle.up_outside.specs.Asked.{entry}
 use Rattle.up_outside.specs.Told.{Then}

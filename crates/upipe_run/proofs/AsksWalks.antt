@@ -1,6 +1,6 @@
 -- What a run asked whose graph is a chain, by how its walk ended.
-use Rattle.std.proofs.Common.{◌≡◌, ℕ, zero, suc, ◌+◌, ◌<◌, ◌≤◌, List, [], ◌∷◌, ◌++◌, map, Bool, true, false, Option, Some, None, IfSome, slice_get, inl, inr, refl, sym, ap, subst, ◌∙◌, arith}
-use Rattle.up_outside.specs.Asked.{Ask, ask_of, entry}
+use Rattle.std.proofs.Common.{◌≡◌, ℕ, zero, suc, ◌+◌, ◌≤◌, List, [], ◌∷◌, ◌++◌, map, Bool, true, false, Option, Some, IfSome, slice_get, inl, inr, refl, sym, ap, subst, ◌∙◌, arith}
+use Rattle.up_outside.specs.Asked.{ask_of, entry}
 use Rattle.up_outside.specs.Held.{Held}
 use Rattle.up_outside.specs.declared.asked.Entry.{Entry}
 use Rattle.up_outside.specs.declared.asked.Mark.{Mark}
@@ -8,11 +8,11 @@ use Rattle.up_outside.specs.declared.asked.Mark.TheVariants.{Refused, Closed}
 use Rattle.up_outside.specs.declared.asked.Side.TheVariants.{Source, Sink}
 use Rattle.up_model.specs.declared.pipe.Pipe.{Pipe}
 use Rattle.up_report.specs.declared.fault.Fault.TheVariants as faults
-use Rattle.upipe_run.specs.Asks.{AsksRun, IfGraph, StopsWell, ReadsWithin, is_clean, moved_by, Blames, CleanBefore}
+use Rattle.upipe_run.specs.Asks.{AsksRun, IfGraph, StopsWell, ReadsWithin, is_clean, moved_by, CleanBefore}
 use Rattle.upipe_run.specs.OfGraph.{WithoutGraph}
 use Rattle.upipe_run.specs.Paths.{asks_of}
 use Rattle.upipe_run.specs.Prefix.{IsPrefixOf}
-use Rattle.upipe_run.specs.Walk.{WalkEntries, BothClosed}
+use Rattle.upipe_run.specs.Walk.{WalkEntries}
 use Rattle.upipe_run.specs.declared.ending.Ending.TheVariants as endings
 use Rattle.upipe_run.specs.declared.verdict.Verdict.TheVariants.{Whole, ReadFault, WriteFault, TooLong, NoMemory}
 

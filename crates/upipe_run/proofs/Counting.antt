@@ -1,5 +1,5 @@
 -- Counts of faults that rose where something failed, one after the other.
-use Rattle.std.proofs.Common.{◌≡◌, ℕ, ◌+◌, ◌-◌, ◌^◌, ◌≤◌, min, Bool, Option, Some, None, nat_lt, true, false, refl, sym, subst, ◌∙◌, arith}
+use Rattle.std.proofs.Common.{◌≡◌, ℕ, ◌+◌, ◌≤◌, Bool, Option, Some, None, nat_lt, true, false, refl, sym, subst, ◌∙◌, arith}
 use Rattle.std.proofs.lemmas.Bool.{lt-ltb}
 use Rattle.up_outside.specs.Counts.{Rose, CountsWhere}
 use Rattle.up_outside.specs.States.{SinkState}

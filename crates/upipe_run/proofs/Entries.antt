@@ -1,11 +1,11 @@
 -- The entries of opens and their closes, one after the other at the end of what was asked.
-use Rattle.std.proofs.Common.{◌≡◌, ℕ, ◌+◌, List, [], ◌∷◌, ◌++◌, length, Bool, true, Option, Some, IfSome, slice_get, slice_set, refl, sym, ap, ◌∙◌, append_assoc, append-nil, arith, length-append}
+use Rattle.std.proofs.Common.{◌≡◌, ℕ, ◌+◌, List, [], ◌∷◌, ◌++◌, length, Option, Some, IfSome, slice_get, slice_set, refl, ap, ◌∙◌, append_assoc}
 use Rattle.up_outside.specs.Asked.{entry, with_mark, Ending, IsOpenAt, Closes}
 use Rattle.up_outside.specs.DepotCalls.{IsNext}
 use Rattle.up_outside.specs.Told.{Then}
 use Rattle.up_outside.specs.declared.asked.Entry.{Entry}
 use Rattle.up_outside.specs.declared.asked.Side.{Side}
-use Rattle.up_outside.specs.declared.asked.Side.TheVariants.{Source, Sink}
+use Rattle.up_outside.specs.declared.asked.Side.TheVariants.{Source}
 use Rattle.up_outside.specs.declared.asked.Mark.TheVariants.{Open, Closed}
 use Rattle.up_outside.proofs.Told.{Then-trans, Then-map, Then-after, counted_from}
 

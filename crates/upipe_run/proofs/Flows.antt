@@ -1,18 +1,17 @@
 -- A walk whose source and sink were opened, by its flow and its close.
-use Rattle.std.proofs.Common.{◌≡◌, ℕ, ◌++◌, List, IfOk, Bool, true, false, not, ◌||◌, nat_lt, is_ok, Option, Some, IfSome, Result, Ok, Err, OnOk, refl, sym, ap, subst, ◌∙◌}
+use Rattle.std.proofs.Common.{◌≡◌, ℕ, ◌++◌, List, IfOk, true, false, not, ◌||◌, nat_lt, is_ok, Some, IfSome, Result, Ok, Err, OnOk, refl}
 use Rattle.std.specs.FinMap.{insert}
 use Rattle.up_base.specs.declared.refusal.Failed.{Failed}
 use Rattle.up_base.specs.declared.refusal.NoMemory.{NoMemory}
 use Rattle.up_outside.specs.Asked.{source_ending, sink_ending}
 use Rattle.up_outside.specs.Counts.{CountsWhere}
 use Rattle.up_outside.specs.DepotCalls.{IsSourceOf, IsEmptySink}
-use Rattle.up_outside.specs.Held.{Held, KeepsOthers}
+use Rattle.up_outside.specs.Held.{KeepsOthers}
 use Rattle.up_outside.specs.States.{DepotState, SourceState, SinkState}
 use Rattle.up_outside.specs.Told.{Then}
 use Rattle.upipe_run.specs.Flow.{Carries, source_failed, is_broken, is_complete}
 use Rattle.upipe_run.specs.Verdicts.{verdict_of}
 use Rattle.upipe_run.specs.Walk.{Walks}
-use Rattle.upipe_run.specs.declared.flow.End.{End}
 use Rattle.upipe_run.specs.declared.flow.End.TheVariants as ends
 use Rattle.upipe_run.specs.declared.flow.FlowEnd.{FlowEnd}
 use Rattle.upipe_run.proofs.Counting.{same_flag}

@@ -1,7 +1,6 @@
 -- Three and four changes of what is told, one after the other.
 use Rattle.std.proofs.Common.{◌≡◌, Option, Some, None, IfSome}
 use Rattle.up_outside.specs.Told.{Then}
-use Rattle.up_outside.proofs.Told.{Then-trans}
 
 pub record Three {X : Type 0} (P Q : X → Type 0) (R1 R2 R3 : X → X → Type 0) (x0 x3 : X) : Type 0 where
   pub x1 : X

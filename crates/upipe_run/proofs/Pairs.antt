@@ -48,7 +48,7 @@ module _ (from to : List ℕ) (ps ms pk mk : Option ℕ) (source : Ending) (n : 
   third : (x0 x3 : List Entry) → SourceClosed x0 x3 → x3 ≡ (x0 ++ closed_source ∷ []) ++ entry to Sink Open ∷ []
   third x0 x3 so_far =
       let both : so_far.x2 ≡ x0 ++ entry from Source Open ∷ entry to Sink Open ∷ [] =
-          so_far.two ∙ ap (λ l. l ++ entry to Sink Open ∷ []) so_far.one ∙ append_assoc x0 (entry from Source Open ∷ []) (entry to Sink Open ∷ []) in
+      so_far.two ∙ ap (λ l. l ++ entry to Sink Open ∷ []) so_far.one ∙ append_assoc x0 (entry from Source Open ∷ []) (entry to Sink Open ∷ []) in
       closes_after x0 (entry to Sink Open ∷ []) x3 (entry from Source Open) ps ms source n so_far.first of (rw both at so_far.three)
       ∙ sym (append_assoc x0 (closed_source ∷ []) (entry to Sink Open ∷ []))
 

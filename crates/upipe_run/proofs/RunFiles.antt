@@ -1,46 +1,31 @@
 -- The run of a graph file, by its text and the walk of its chain.
-use Rattle.std.proofs.Common.{◌≡◌, ◌⊎◌, ℕ, ◌+◌, ◌-◌, ◌<◌, ◌≤◌, List, [], ◌∷◌, ◌++◌, length, Bool, true, false, Option, Some, None, IfSome, Result, Ok, Err, inl, inr, slice_get, suc, append-nil, refl, sym, ap, subst, ◌∙◌, append_assoc, arith}
+use Rattle.std.proofs.Common.{◌≡◌, ℕ, ◌≤◌, List, [], ◌∷◌, ◌++◌, true, false, Option, Some, None, IfSome, Ok, Err, inl, inr, slice_get, suc, append-nil, refl, sym, ◌∙◌, arith}
 use Rattle.up_base.specs.declared.refusal.Refusal.TheVariants as reads
 use Rattle.up_graph.specs.Answers.{Answers}
 use Rattle.up_graph.specs.Graph.{graph_of}
 use Rattle.up_graph.specs.declared.graph_refused.GraphRefused.TheVariants as refusals
 use Rattle.up_graph.specs.declared.graph_refused.GraphRefused.{GraphRefused}
-use Rattle.up_model.specs.Chain.{IsChain}
 use Rattle.up_model.specs.declared.graph.Graph.{Graph}
-use Rattle.up_model.specs.declared.outcome.Outcome.TheVariants as outcomes
 use Rattle.up_model.specs.declared.pipe.Pipe.{Pipe}
 use Rattle.up_outside.specs.Asked.{entry}
-use Rattle.up_outside.specs.Counts.{Rose, CountsWhere}
 use Rattle.up_outside.specs.DepotCalls.{CountsFaults}
-use Rattle.up_outside.specs.Held.{Held, KeepsOthers}
+use Rattle.up_outside.specs.Held.{Held}
 use Rattle.up_outside.specs.States.{DepotState}
 use Rattle.up_outside.specs.Told.{Then}
 use Rattle.up_outside.specs.declared.asked.Entry.{Entry}
 use Rattle.up_outside.specs.declared.asked.Mark.TheVariants.{Refused, Closed}
 use Rattle.up_outside.specs.declared.asked.Side.TheVariants.{Source}
-use Rattle.up_outside.proofs.Told.{Then-trans, Then-map, always}
+use Rattle.up_outside.proofs.Told.{Then-map, always}
 use Rattle.up_report.specs.declared.fault.Fault.TheVariants as faults
 use Rattle.upipe_run.specs.Asks.{AsksRun, IfGraph, Stops, NoneOpen, MarksEnding, ReadsWithin, moved_by}
-use Rattle.upipe_run.specs.Causes.{HasBytesCause, HasNoGraph, HasOutcome, EndsRefused, IsNamed, IsToBlame, IsGraphEnding}
-use Rattle.upipe_run.specs.ChainEnds.{HasEnds}
 use Rattle.upipe_run.specs.Endings.{IsOfText, refused_ending}
 use Rattle.upipe_run.specs.GraphText.{IsStartAt, AsksText}
-use Rattle.upipe_run.specs.OfGraph.{IsOfGraph, WithoutGraph}
 use Rattle.upipe_run.specs.Runs.{HasCauses, KeepsOtherPaths}
-use Rattle.upipe_run.specs.Verdicts.{Names}
-use Rattle.upipe_run.specs.Walk.{Walks, AsksWalk, WalkEntries, IsCopied, IsBeyond, IsWithin}
-use Rattle.upipe_run.specs.WholeOutput.{RanWhole, IsWholeOutput, Copies}
-use Rattle.upipe_run.specs.declared.chain.ChainEnds.{ChainEnds}
 use Rattle.upipe_run.specs.declared.ending.Ending.{Ending}
 use Rattle.upipe_run.specs.declared.ending.Ending.TheVariants as endings
-use Rattle.upipe_run.specs.declared.verdict.Verdict.{Verdict}
-use Rattle.upipe_run.specs.declared.verdict.Verdict.TheVariants.{Whole, ReadFault, WriteFault, TooLong, NoMemory}
-use Rattle.upipe_run.proofs.AsksWalks.{asks_whole, asks_read_fault, asks_write_fault, asks_too_long, asks_no_memory, first_moved, none_clean}
-use Rattle.upipe_run.proofs.ChainPaths.{asks_of-chain, not_sink, source_within, sink_within}
-use Rattle.upipe_run.proofs.Counting.{none_then, later_rose}
+use Rattle.upipe_run.proofs.AsksWalks.{first_moved, none_clean}
 use Rattle.upipe_run.proofs.Folds.{Then-refl}
-use Rattle.upipe_run.proofs.Texts.{no_graph_told, without_graph, is_of_graph, of_graph, is_of_graph_told, of_graph_told, has_graph_told, at_graph}
-use Rattle.upipe_run.proofs.WholeChains.{chain_ran, whole_outcome, long_outcome}
+use Rattle.upipe_run.proofs.Texts.{no_graph_told, without_graph}
 
 -- so it is of any graph
 any_graph : (path : List ℕ) (held : Option Held) (IsSo : List Pipe → Type 0) → ((pipes : List Pipe) → IsSo pipes) → IfGraph path held IsSo

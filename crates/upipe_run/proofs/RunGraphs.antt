@@ -1,5 +1,5 @@
 -- The run of a graph that was read, by the walk of its chain.
-use Rattle.std.proofs.Common.{◌≡◌, ◌⊎◌, ℕ, ◌+◌, ◌-◌, ◌≤◌, List, [], ◌∷◌, ◌++◌, length, Bool, true, false, Option, Some, None, IfSome, Ok, inl, inr, slice_get, refl, sym, ap, subst, ◌∙◌, append_assoc, arith}
+use Rattle.std.proofs.Common.{◌≡◌, ◌⊎◌, ℕ, ◌+◌, ◌-◌, ◌≤◌, List, [], ◌∷◌, ◌++◌, length, true, false, Option, Some, None, IfSome, Ok, inl, inr, refl, sym, ap, subst, ◌∙◌, append_assoc, arith}
 use Rattle.up_graph.specs.Graph.{graph_of}
 use Rattle.up_model.specs.Chain.{IsChain}
 use Rattle.up_model.specs.declared.graph.Graph.{Graph}
@@ -17,14 +17,14 @@ use Rattle.up_outside.specs.declared.asked.Side.TheVariants.{Source, Sink}
 use Rattle.up_outside.proofs.Told.{Then-trans, Then-map, always}
 use Rattle.up_report.specs.declared.fault.Fault.TheVariants as faults
 use Rattle.upipe_run.specs.Asks.{AsksRun, IfGraph, ReadsWithin, moved_by}
-use Rattle.upipe_run.specs.Causes.{HasOutcome, EndsRefused, IsNamed, IsToBlame, IsGraphEnding}
+use Rattle.upipe_run.specs.Causes.{HasOutcome, EndsRefused, IsNamed, IsToBlame}
 use Rattle.upipe_run.specs.ChainEnds.{HasEnds}
 use Rattle.upipe_run.specs.GraphText.{IsStartAt, AsksText}
 use Rattle.upipe_run.specs.OfGraph.{IsOfGraph, WithoutGraph}
 use Rattle.upipe_run.specs.Runs.{HasCauses, KeepsOtherPaths}
 use Rattle.upipe_run.specs.Verdicts.{Names}
 use Rattle.upipe_run.specs.Walk.{Walks, AsksWalk, WalkEntries, IsCopied, IsBeyond, IsWithin}
-use Rattle.upipe_run.specs.WholeOutput.{RanWhole, IsWholeOutput, Copies}
+use Rattle.upipe_run.specs.WholeOutput.{RanWhole}
 use Rattle.upipe_run.specs.declared.chain.ChainEnds.{ChainEnds}
 use Rattle.upipe_run.specs.declared.ending.Ending.{Ending}
 use Rattle.upipe_run.specs.declared.ending.Ending.TheVariants as endings

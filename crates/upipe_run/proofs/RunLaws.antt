@@ -10,19 +10,17 @@ use Rattle.up_model.specs.declared.graph.Graph.{Graph}
 use Rattle.up_model.specs.declared.kind.Kind.{Kind}
 use Rattle.up_model.specs.declared.kind.Kind.TheVariants.{Source}
 use Rattle.up_model.specs.declared.outcome.Outcome.TheVariants as outcomes
-use Rattle.up_outside.specs.Counts.{Rose}
 use Rattle.up_outside.specs.Held.{Held}
 use Rattle.up_outside.specs.Told.{Then}
 use Rattle.up_outside.specs.declared.asked.Entry.{Entry}
 use Rattle.up_report.specs.Faults.{status_of}
-use Rattle.up_report.specs.declared.fault.Fault.{Fault}
 use Rattle.up_report.specs.declared.fault.Fault.TheVariants as faults
 use Rattle.upipe_run.specs.Asks.{AsksRun}
 use Rattle.upipe_run.specs.Causes.{HasBytesCause, HasNoGraph, HasOutcome, IsGraphEnding}
 use Rattle.upipe_run.specs.Counts.{CountsRun}
 use Rattle.upipe_run.specs.Endings.{IsOfText, IsRunEnding}
 use Rattle.upipe_run.specs.Laws.{IsRunStatus, SettlesStatus, Completes, AsksAll}
-use Rattle.upipe_run.specs.OfGraph.{IsOfGraph, OfGraph, WithoutGraph}
+use Rattle.upipe_run.specs.OfGraph.{WithoutGraph}
 use Rattle.upipe_run.specs.Runs.{Runs}
 use Rattle.upipe_run.specs.Seen.{Seen}
 use Rattle.upipe_run.specs.Tells.{TellsEnding}

@@ -10,7 +10,6 @@ use Rattle.up_graph.specs.declared.graph_refused.GraphRefused.TheVariants as ref
 use Rattle.up_model.specs.declared.graph.Graph.{Graph}
 use Rattle.up_outside.specs.Held.{Held}
 use Rattle.upipe_run.specs.Causes.{AreAlike, HasNoGraph}
-use Rattle.upipe_run.specs.Endings.{IsOfText}
 use Rattle.upipe_run.specs.GraphText.{IsStartAt}
 use Rattle.upipe_run.specs.OfGraph.{IsOfGraph, OfGraph, WithoutGraph}
 

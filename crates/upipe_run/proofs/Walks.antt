@@ -1,5 +1,5 @@
 -- A walk, by how it ended.
-use Rattle.std.proofs.Common.{◌≡◌, ℕ, ◌+◌, ◌≤◌, List, [], ◌∷◌, ◌++◌, Bool, true, false, not, ◌&&◌, ◌||◌, Option, Some, None, IfSome, Err, inl, inr, refl, sym, arith, append-nil}
+use Rattle.std.proofs.Common.{◌≡◌, ℕ, ◌+◌, ◌≤◌, List, [], ◌∷◌, ◌++◌, Bool, true, false, not, ◌||◌, Option, Some, None, IfSome, Err, inl, inr, refl, sym, arith, append-nil}
 use Rattle.up_base.specs.declared.refusal.Refusal.{Refusal}
 use Rattle.up_base.specs.declared.refusal.Refusal.TheVariants as refusals
 use Rattle.up_outside.specs.Asked.{entry, opened}
@@ -14,10 +14,10 @@ use Rattle.up_outside.specs.declared.asked.Mark.TheVariants.{Refused, Closed}
 use Rattle.up_outside.proofs.Told.{Then-map, always}
 use Rattle.upipe_run.specs.Flow.{is_broken}
 use Rattle.upipe_run.specs.Verdicts.{verdict_by, sink_refused}
-use Rattle.upipe_run.specs.Walk.{Walks, AsksWalk, IsCopied, IsBeyond, IsWithin}
+use Rattle.upipe_run.specs.Walk.{Walks, IsCopied, IsBeyond, IsWithin}
 use Rattle.upipe_run.specs.declared.flow.End.{End}
 use Rattle.upipe_run.specs.declared.flow.End.TheVariants as ends
-use Rattle.upipe_run.specs.declared.verdict.Verdict.TheVariants.{Whole, ReadFault, WriteFault, TooLong, NoMemory}
+use Rattle.upipe_run.specs.declared.verdict.Verdict.TheVariants.{ReadFault, NoMemory}
 use Rattle.upipe_run.proofs.Kept.{keeps_told}
 
 pub nothing_added : (a : Option (List Entry)) → Then (λ before after. after ≡ before ++ []) a a

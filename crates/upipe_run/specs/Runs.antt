@@ -1,5 +1,5 @@
 -- What the program does for its words.
-use Rattle.std.specs.Prelude.{◌≡◌, ◌⊎◌, ℕ, List, Option, Some, None, IfSome}
+use Rattle.std.specs.Prelude.{◌≡◌, ℕ, List, Option, Some, None, IfSome}
 use Rattle.std.specs.FinMap.{get}
 use Rattle.up_outside.specs.Held.{Held}
 use Rattle.up_outside.specs.States.{DepotState}

@@ -58,17 +58,14 @@ pub fn run_single<D: Depot, K: Sink, E: Sink>(
     err: &mut E,
 ) -> u8
     requires { pool ≡ false }
-    ensures whole_output {
-        let old = seen (D.state depot.old) (K.state out.old) (E.state err.old) in
+    ensures whole_output { let old = seen (D.state depot.old) (K.state out.old) (E.state err.old) in
         let new = seen (D.state depot.new) (K.state out.new) (E.state err.new) in
         WritesWhole graph.now old new result }
-    ensures others_stay {
-        let old = seen (D.state depot.old) (K.state out.old) (E.state err.old) in
+    ensures others_stay { let old = seen (D.state depot.old) (K.state out.old) (E.state err.old) in
         let new = seen (D.state depot.new) (K.state out.new) (E.state err.new) in
         KeepsPaths graph.now old new }
     ensures report_text { K.state out.new ≡ K.state out.old }
-    ensures explained {
-        let old = seen (D.state depot.old) (K.state out.old) (E.state err.old) in
+    ensures explained { let old = seen (D.state depot.old) (K.state out.old) (E.state err.old) in
         let new = seen (D.state depot.new) (K.state out.new) (E.state err.new) in
         IsExplained graph.now old new result }
 {

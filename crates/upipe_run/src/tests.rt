@@ -392,7 +392,10 @@ fn a_run_asks_in_order_and_reads_one_byte_beyond_the_limit(rt: HostRuntime) -> R
             failed: false,
             shut: true,
         };
-        assert_eq!(rt; (entry.path.as_str(), entry.side, entry.mark), (path, side, mark));
+        assert_eq!(rt;
+            (entry.path.as_str(), entry.side, entry.mark),
+            (path, side, mark)
+        );
     }
     Ok(())
 }

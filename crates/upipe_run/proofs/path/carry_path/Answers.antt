@@ -1,8 +1,5 @@
-use Rattle.std.proofs.Common.{arith, rules, ◌≡◌, true, false, not, ◌||◌, nat_lt, is_ok, ℕ, refl, sym, ap, subst, ◌∙◌}
+use Rattle.std.proofs.Common.{◌≡◌, false, nat_lt, refl}
 use Rattle.up_outside.specs.Asked.{source_ending, sink_ending}
-use Rattle.up_outside.specs.Counts.{CountsWhere}
-use Rattle.upipe_run.specs.Flow.{source_failed}
-use Rattle.upipe_run.specs.Walk.{Walks}
 use Rattle.upipe_run.proofs.Counting.{still_counted, then_none, none_then}
 use Rattle.upipe_run.proofs.Entries.{IsOf}
 use Rattle.upipe_run.proofs.Kept.{keeps_told, others_kept}
@@ -49,7 +46,7 @@ returns-in-Err g c =
     let two = c.in-Err.ensures.asks in
     let three = c.close_source.ensures.closes in
     let refused = refused_and_closed c.args.from.now c.args.to.now source.place source.moved (source_ending source) 0 ends c.in-Err.refusal s0.asked s1.asked s2.asked
-        c.in-Ok-open_source.ensures.opens.next one.entries two.entries s3.asked three.entries in
+    c.in-Ok-open_source.ensures.opens.next one.entries two.entries s3.asked three.entries in
     rw c.sink_refused.ensures (walks_sink_refused c.args.from.now c.args.to.now c.args.limit s0 s3 c.in-Err.refusal
     (others_kept s0.held s1.held s2.held s3.held s3.held c.args.to.now c.open_source.ensures.held c.open_sink.ensures.held c.close_source.ensures.held (keeps_told s3.held s3.held c.args.to.now refl))
     (rw unfailed at refused)
@@ -102,8 +99,8 @@ returns g c =
     let three = c.close_source-2.ensures in
     let four = c.close_sink-closed.ensures in
     let pair = pair_closed c.args.from.now c.args.to.now opened.place opened.moved opened_sink.place opened_sink.moved (source_ending source) flow.carries.count
-        (record { place = flow.same_source; sum = flow.carries.sum }) s0.asked s1.asked s2.asked s3.asked one.opens.next one.asks.entries two.opens.next two.asks.entries
-        three.closes.entries s4.asked (sink_ending sink closed) four.closes.entries flow.same_sink.place flow.same_sink.sum in
+    (record { place = flow.same_source; sum = flow.carries.sum }) s0.asked s1.asked s2.asked s3.asked one.opens.next one.asks.entries two.opens.next two.asks.entries
+    three.closes.entries s4.asked (sink_ending sink closed) four.closes.entries flow.same_sink.place flow.same_sink.sum in
     rw (c.verdict_of.ensures, c.is_ok.ensures.value) (walks_flow c.args.from.now c.args.to.now c.args.limit s0 s1 s2 s3 s4 opened source opened_sink sink
     one.opens two.opens c.open_source.ensures.held c.open_sink.ensures.held three.held four.held closed four.stored
     c.carry-flow.result flow.carries flow.read_faults flow.write_faults pair

@@ -1,4 +1,4 @@
-use Rattle.up_words.specs.Words.{job_of, IsRead}
+use Rattle.up_words.specs.Words.{job_of}
 use Rattle.upipe_run.proofs.WordsLost.{does_no_memory}
 use Rattle.upipe_run.proofs.program.run.Goals as goal
 

@@ -1,4 +1,4 @@
-use Rattle.std.proofs.Common.{refl, sym, ◌∙◌}
+use Rattle.std.proofs.Common.{sym, ◌∙◌}
 use Rattle.upipe_run.proofs.RunFiles.{others_stay, causes_unread, causes_no_text, causes_refused, refused_whole}
 use Rattle.upipe_run.proofs.RunGraphs.{whole_ran, others_ran, causes_ran, ending_whole}
 use Rattle.upipe_run.proofs.program.run_file.Goals as goal
