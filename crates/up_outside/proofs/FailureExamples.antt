@@ -2,12 +2,12 @@
 use Rattle.std.proofs.Common.{◌≡◌, List, [], ◌∷◌, true, false, refl}
 use Rattle.std.specs.Prelude.{codes}
 use Rattle.up_outside.specs.Asked.{entry}
-use Rattle.up_outside.specs.Failures.{failure, calls_made, is_due, numbers_of}
+use Rattle.up_outside.specs.Memory.Failures.{failure, calls_made, is_due, numbers_of}
 use Rattle.up_outside.specs.declared.asked.Entry.{Entry}
 use Rattle.up_outside.specs.declared.asked.Mark.TheVariants as marks
 use Rattle.up_outside.specs.declared.asked.Side.TheVariants as sides
-use Rattle.up_outside.specs.declared.depot_call.DepotCall.TheVariants as calls
-use Rattle.up_outside.specs.declared.failures.Failure.{Failure}
+use Rattle.up_outside.specs.declared.memory.depot_call.DepotCall.TheVariants as calls
+use Rattle.up_outside.specs.declared.memory.failures.Failure.{Failure}
 
 -- the second open of the source `q`, and the third read of each source there
 abbrev table : List Failure

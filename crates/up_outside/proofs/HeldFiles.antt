@@ -14,7 +14,7 @@ use Rattle.std.proofs.lemmas.Slice.Eq.{bytes_eq-Decides}
 use Rattle.std.proofs.lemmas.List.Quantifiers.{position-Some}
 use Rattle.std.proofs.lemmas.Option.{slice_get-get_or}
 use Rattle.up_outside.specs.Held.{Held}
-use Rattle.up_outside.specs.HeldFiles.{File}
+use Rattle.up_outside.specs.Memory.HeldFiles.{File}
 
 -- the list as a map
 abbrev pub held : List File → Held

@@ -1,3 +1,4 @@
 pub mod FailureExamples
 pub mod HeldFiles
 pub mod Rooms
+pub mod Told

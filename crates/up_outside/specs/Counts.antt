@@ -1,6 +1,5 @@
--- Counts of faults, and the answers that they explain.
-use Rattle.std.specs.Prelude.{◌≡◌, ℕ, ◌+◌, ◌-◌, ◌^◌, ◌≤◌, min, Bool, true, false, Result, Ok, Err, OnErr, IsErrOf}
-use Rattle.up_base.specs.declared.refusal.Failed.{Failed}
+-- Counts of faults.
+use Rattle.std.specs.Prelude.{◌≡◌, ℕ, ◌+◌, ◌-◌, ◌^◌, ◌≤◌, min, Bool, true, false, Result, Ok, Err}
 use Rattle.up_base.specs.declared.refusal.Refusal.{Refusal}
 use Rattle.up_base.specs.declared.refusal.Refusal.TheVariants as refusals
 
@@ -24,13 +23,3 @@ abbrev pub is_failed : {T : Type 0} → Result T Refusal → Bool
 is_failed (Ok x) = false
 is_failed (Err refusals.Failed) = true
 is_failed (Err refusals.NoMemory) = false
-
--- the count didn't fall, and rose where the call failed
-pub record HasCause {T : Type 0} (before now : ℕ) (result : Result T Failed) : Type 0 where
-  pub later : before ≤ now
-  pub failed : OnErr result (Rose before now)
-
--- the same of a call that may also find no memory: that alone needs no cause
-pub record RefusedByCause {T : Type 0} (before now : ℕ) (result : Result T Refusal) : Type 0 where
-  pub later : before ≤ now
-  pub failed : IsErrOf result refusals.Failed → Rose before now

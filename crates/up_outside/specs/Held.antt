@@ -14,8 +14,6 @@ pub record Opens (held : Held) (path : List ℕ) (left : Option (List ℕ)) : Ty
   pub at_path : get held path ≡ Some bytes
   pub told : left ≡ Some bytes
 
--- what is held is still told, and is as before at every path but this
-pub record KeepsOthers (old : Held) (new : Option Held) (path : List ℕ) : Type 0 where
-  pub after : Held
-  pub told : new ≡ Some after
-  pub others : (q : List ℕ) → q ≢ path → get after q ≡ get old q
+-- every other path has what it had
+abbrev pub KeepsOthers : List ℕ → Held → Held → Type 0
+KeepsOthers path before after = (q : List ℕ) → q ≢ path → get after q ≡ get before q

@@ -1,7 +1,0 @@
-use Rattle.up_outside.proofs.Rooms.{rooms-close}
-use Rattle.up_outside.proofs.mem_depot.MemDepot.take_source.Goals as goal
-
-pub invariant_of-self-clause-rooms : goal.invariant_of-self-clause-rooms
-invariant_of-self-clause-rooms c =
-    let closes = rw c.place.ensures at c.close_entry.ensures in
-    rooms-close c.args.self.now.held c.args.self.now.asked.items c.close_entry.new.asked.items _ _ _ c.requires.0 _ _ c.args.self.now.rooms c.requires.1 closes

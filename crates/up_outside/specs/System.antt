@@ -1,0 +1,2 @@
+-- The outside of a system: its files and streams.
+pub mod Adapters

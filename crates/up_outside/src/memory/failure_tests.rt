@@ -1,0 +1,134 @@
+ghost use Rattle.std.specs.Prelude.{◌≡◌};
+
+use crate::test_calls::{read_once, write_once};
+use crate::{Depot, DepotCall, Mark, MemDepot, Source};
+use std::alloc::Global;
+use std::test::Fail;
+use up_base::{Failed, Refusal};
+
+/// Reads three times: which of the reads failed.
+fn three_reads<S: Source>(source: &mut S) -> [bool; 3]
+    ensures { (S.state source.new).place ≡ (S.state source.old).place }
+{
+    let mut room = [0; 1];
+    let first = read_once(source, &mut room) == Err(Failed);
+    let second = read_once(source, &mut room) == Err(Failed);
+    let third = read_once(source, &mut room) == Err(Failed);
+    [first, second, third]
+}
+
+/// Opens the source at the path, reads three times and closes it: which of the reads failed.
+fn failing_reads(depot: &mut MemDepot, path: &str) -> Result<[bool; 3], Refusal> {
+    let mut source = depot.open_source(path)?;
+    let failed = three_reads(&mut source);
+    depot.close_source(source);
+    Ok(failed)
+}
+
+/// Opens the sink at the path, writes three times and closes it: which of the writes failed, and whether the close did.
+fn failing_writes(depot: &mut MemDepot, path: &str) -> Result<([bool; 3], bool), Refusal> {
+    let mut sink = depot.open_sink(path)?;
+    let first = write_once(&mut sink, b"ab") == Err(Refusal::Failed);
+    let second = write_once(&mut sink, b"ab") == Err(Refusal::Failed);
+    let third = write_once(&mut sink, b"ab") == Err(Refusal::Failed);
+    let closed = depot.close_sink(path, sink);
+    Ok(([first, second, third], closed.is_err()))
+}
+
+/// A depot that holds `xyz` at the path `q`.
+fn depot_of(alloc: Global) -> Result<MemDepot, Fail> {
+    let mut depot = MemDepot::new(alloc);
+    depot.hold("q", b"xyz")?;
+    Ok(depot)
+}
+
+#[test]
+fn the_nth_open_from_then_on_fails(rt: HostRuntime) -> Result<(), Fail> {
+    let mut depot = depot_of(rt.alloc())?;
+    assert!(rt; depot.open_source("q").is_ok());
+    assert!(rt; depot.open_sink("r").is_ok());
+    depot.fail(DepotCall::OpenSource, "q", 2)?;
+    depot.fail(DepotCall::OpenSink, "r", 2)?;
+    for (call, fails) in [false, true, false].iter().enumerate() {
+        let opened = depot.open_source("q");
+        assert_eq!(rt; matches!(opened, Err(Refusal::Failed)), *fails, "{call}");
+        let opened = depot.open_sink("r");
+        assert_eq!(rt; matches!(opened, Err(Refusal::Failed)), *fails, "{call}");
+    }
+    assert_eq!(rt; (depot.source_faults(), depot.sink_faults()), (1, 1));
+    let refused = depot
+        .asked()
+        .iter()
+        .filter(|entry| entry.mark == Mark::Refused);
+    assert_eq!(rt; refused.count(), 2);
+    Ok(())
+}
+
+#[test]
+fn a_refused_open_leaves_what_was_held(rt: HostRuntime) -> Result<(), Fail> {
+    let mut depot = depot_of(rt.alloc())?;
+    depot.fail(DepotCall::OpenSink, "q", 1)?;
+    assert!(rt; matches!(depot.open_sink("q"), Err(Refusal::Failed)));
+    assert_eq!(rt; depot.bytes("q"), Some(b"xyz".as_slice()));
+    Ok(())
+}
+
+#[test]
+fn reads_are_counted_on_each_object(rt: HostRuntime) -> Result<(), Fail> {
+    let mut depot = depot_of(rt.alloc())?;
+    depot.hold("p", b"xyz")?;
+    assert_eq!(rt; failing_reads(&mut depot, "q")?, [false; 3]);
+    depot.fail(DepotCall::Read, "q", 2)?;
+    depot.fail(DepotCall::Write, "q", 1)?;
+    assert_eq!(rt; failing_reads(&mut depot, "q")?, [false, true, false]);
+    assert_eq!(rt; failing_reads(&mut depot, "p")?, [false; 3]);
+    depot.fail(DepotCall::Read, "q", 3)?;
+    assert_eq!(rt; failing_reads(&mut depot, "q")?, [false, true, true]);
+    assert_eq!(rt; (depot.source_faults(), depot.sink_faults()), (2, 0));
+    let closed = Mark::Closed {
+        moved: 1,
+        failed: true,
+        shut: true,
+    };
+    assert_eq!(rt; depot.asked().last().map(|entry| entry.mark), Some(closed));
+    Ok(())
+}
+
+#[test]
+fn what_a_sink_took_beside_a_failing_write_is_kept(rt: HostRuntime) -> Result<(), Fail> {
+    let mut depot = depot_of(rt.alloc())?;
+    assert_eq!(rt; failing_writes(&mut depot, "r")?, ([false; 3], false));
+    assert_eq!(rt; depot.bytes("r"), Some(b"ababab".as_slice()));
+    depot.fail(DepotCall::Write, "s", 1)?;
+    assert_eq!(rt;
+        failing_writes(&mut depot, "s")?,
+        ([true, false, false], false)
+    );
+    assert_eq!(rt; depot.bytes("s"), Some(b"abab".as_slice()));
+    assert_eq!(rt; failing_writes(&mut depot, "r")?, ([false; 3], false));
+    assert_eq!(rt; (depot.source_faults(), depot.sink_faults()), (0, 1));
+    Ok(())
+}
+
+#[test]
+fn a_refused_close_leaves_the_path_empty(rt: HostRuntime) -> Result<(), Fail> {
+    let mut depot = depot_of(rt.alloc())?;
+    depot.fail(DepotCall::CloseSink, "q", 2)?;
+    let closes = [
+        (false, b"ababab".as_slice(), 0),
+        (true, b"", 1),
+        (false, b"ababab", 1),
+    ];
+    for (refused, left, faults) in closes {
+        assert_eq!(rt; failing_writes(&mut depot, "q")?, ([false; 3], refused));
+        assert_eq!(rt; depot.bytes("q"), Some(left));
+        assert_eq!(rt; depot.sink_faults(), faults);
+        let closed = Mark::Closed {
+            moved: 6,
+            failed: refused,
+            shut: !refused,
+        };
+        assert_eq!(rt; depot.asked().last().map(|entry| entry.mark), Some(closed));
+    }
+    Ok(())
+}
