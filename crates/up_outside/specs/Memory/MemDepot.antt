@@ -63,7 +63,8 @@ FailsWhere must (Ok x) = must ≡ false
 FailsWhere must (Err refusals.Failed) = must ≡ true
 FailsWhere must (Err refusals.NoMemory) = Unit {0}
 
--- what the open of a sink leaves at its path: no bytes, or what was there where it failed; want of memory, either
+-- what the open of a sink leaves at its path: no bytes, and where it failed what was there; where no memory was found
+-- nothing is said of this path alone
 abbrev pub Empties : {T : Type 0} → Result T Refusal → List ℕ → Held → Held → Type 0
 Empties (Ok x) path before after = after ≡ insert before path []
 Empties (Err refusals.Failed) path before after = after ≡ before
