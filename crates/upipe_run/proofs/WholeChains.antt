@@ -1,5 +1,5 @@
 -- A chain whose bytes were copied has a whole output.
-use Rattle.std.proofs.Common.{◌≡◌, ℕ, zero, suc, ◌+◌, ◌-◌, ◌<◌, ◌≤◌, List, [], length, Option, Some, slice_get, refl, sym, ap, ◌∙◌, arith, inl, inr}
+use Rattle.std.proofs.Common.{◌≡◌, ℕ, zero, suc, ◌+◌, ◌-◌, ◌<◌, ◌≤◌, List, [], length, Option, Some, slice_get, refl, sym, ap, subst, ◌∙◌, arith, inl, inr}
 use Rattle.std.specs.Prelude.{unwrap_or, option_and_then}
 use Rattle.std.specs.FinMap.{get}
 use Rattle.std.proofs.lemmas.Bool.{cases_lt, le-ltb, lt-ltb}
@@ -86,7 +86,8 @@ module _ (before : Held) (pipes : List Pipe) (ends : ChainEnds) (chain : IsChain
             let here : length pipes - 1 ≡ suc place = omega arith in
             let same : pipe ≡ has.sink = same_pipe pipe has.sink (sym at ∙ ap (slice_get pipes) (sym here) ∙ has.last) in
             let kind : pipe.kind ≡ Sink ends.to.now sink_forms.Raw = ap (λ (p : Pipe). p.kind) same ∙ has.writes in
-            rw kind (at_sink ∙ ap Some (sym (sink_bytes-copied bytes (suc place) pipe at_source within last at)))
+            let of_kind : Kind → Type 0 = λ kind. IsWholeSink now (sink_bytes pipes (given_by before pipes) pipe) kind in
+            subst of_kind (sym kind) (at_sink ∙ ap Some (sym (sink_bytes-copied bytes (suc place) pipe at_source within last at)))
       ]
 
   copies : (now : Held) (bytes : List ℕ) → get before ends.from.now ≡ Some bytes → get now ends.to.now ≡ Some bytes → Copies before now pipes

@@ -1,7 +1,8 @@
 -- What a whole run leaves: each sink's path has the bytes that the graph gives it, by what the sources' paths had.
 use Rattle.std.specs.Prelude.{◌≡◌, ℕ, ◌-◌, List, [], length, slice_get, Option, Some, None, unwrap_or}
 use Rattle.std.specs.FinMap.{get}
-use Rattle.up_model.specs.Meaning.{Flow, sink_bytes}
+use Rattle.up_model.specs.Meaning.{sink_bytes}
+use Rattle.up_model.specs.Packet.{Flow}
 use Rattle.up_model.specs.Outcomes.{outcome_of, carried_flow}
 use Rattle.up_model.specs.declared.kind.Kind.{Kind}
 use Rattle.up_model.specs.declared.kind.Kind.TheVariants.{Source, Sink}
