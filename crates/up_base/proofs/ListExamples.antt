@@ -1,9 +1,9 @@
 -- Worked examples of a list that begins with another, and of numbers within bounds.
-use Rattle.std.proofs.Common.{◌≡◌, [], ◌∷◌, true, false, refl}
+use Rattle.std.proofs.Common.{◌≡◌, ℕ, [], ◌∷◌, true, false, refl}
 use Rattle.up_base.specs.Bounds.{is_within}
 use Rattle.up_base.specs.Lists.{IsPrefix}
 
-pub begins : IsPrefix (1 ∷ 2 ∷ []) (1 ∷ 2 ∷ 3 ∷ [])
+pub begins : IsPrefix {T = ℕ} (1 ∷ 2 ∷ []) (1 ∷ 2 ∷ 3 ∷ [])
 begins = (3 ∷ [], refl)
 
 -- with itself, too
