@@ -64,6 +64,7 @@ fn the_greatest_packet_is_passed_on_and_dropped(rt: HostRuntime) -> Result<(), F
     let greatest = vec![in alloc; 7; 1_048_576]?;
     let taken = [greatest.as_slice()];
     let passed = Trial {
+        set: &[],
         taken: &taken,
         put: &taken,
         sums: Tally {
@@ -71,20 +72,20 @@ fn the_greatest_packet_is_passed_on_and_dropped(rt: HostRuntime) -> Result<(), F
             put: 1,
             ..Tally::default()
         },
-        ..PASSED_ON
     };
     let wanted = passed.wanted(alloc);
     assert_eq!(rt; tried(alloc, Idem::new(), &passed), wanted);
     assert_eq!(rt; tried(alloc, DupPipe::new(), &passed), wanted);
     let dropped = Trial {
+        set: &[],
         taken: &taken,
+        put: &[],
         sums: Tally {
             taken: 1,
             dropped: 1,
             cut: 1_048_576,
             ..Tally::default()
         },
-        ..DROPPED
     };
     assert_eq!(rt;
         tried(alloc, NullPipe::new(), &dropped),
@@ -211,9 +212,11 @@ fn modules_outboxes_and_lists_can_cross_threads(rt: HostRuntime) {
     feed_one(&rt, sent(DupPipe::new()), b"cd", &mut out, s);
     feed_one(&rt, sent(NullPipe::new()), b"ef", &mut out, s);
     let mut list: ItemList<VecPacket> = sent(ItemList::new(rt.alloc()));
-    while let Some(packet) = out.next() {
+    for _ in 0..2 {
+        let packet = out.next().expect(&rt, "no packet was put out");
         list.push(packet).expect(&rt, "no memory");
     }
     assert_eq!(rt; list.len(), 2);
+    assert!(rt; out.next().is_none());
     out.end();
 }
