@@ -1,5 +1,5 @@
 ghost use Rattle.up_model.specs.Packet.{IsLegal};
-ghost use Rattle.up_shape.specs.TrialPackets.{plain_within};
+ghost use Rattle.up_shape.specs.VecPackets.{plain_of};
 
 use crate::DelAttr;
 use std::alloc::Global;
@@ -95,30 +95,27 @@ fn five_thousand_packets_go_on(rt: HostRuntime) -> Result<(), Fail> {
     Ok(())
 }
 
-/// A packet `abc` with these two attributes, whose values are 1 and 2.
-fn with_two(rt: &impl Abort, first: &AttrName, second: &AttrName, s: &mut TrialStore) -> TrialPacket
-    ensures { IsLegal (plain_within result) }
+/// A packet `abc` with a flag of this name.
+fn flagged(rt: &impl Abort, name: &AttrName, s: &mut VecStore) -> VecPacket
+    ensures { IsLegal (plain_of result) }
 {
-    let mut packet = TrialPacket::fresh(b"abc", s).expect(rt, "no memory");
+    let mut packet = VecPacket::fresh(b"abc", s).expect(rt, "no memory");
     packets_stay_legal();
-    assert!(rt; !first.bytes().is_empty());
+    assert!(rt; !name.bytes().is_empty());
     assert!(rt; packet.attr_count() < 64);
-    assert_eq!(rt; packet.set_attr(first, ValueView::Unsigned(1)), Ok(()));
-    assert!(rt; !second.bytes().is_empty());
-    assert!(rt; packet.attr_count() < 64);
-    assert_eq!(rt; packet.set_attr(second, ValueView::Unsigned(2)), Ok(()));
+    assert_eq!(rt; packet.set_attr(name, ValueView::Flag(true)), Ok(()));
     packet
 }
 
-/// What a fresh module makes of the packet. Nothing was put out before, and nothing is after.
-fn passed<M: Module<TrialPacket>>(
+/// What a module that was fed nothing makes of the packet.
+fn passed<M: Module<VecPacket>>(
     rt: &impl Abort,
     alloc: Global,
     mut m: M,
-    packet: TrialPacket,
-    s: &mut TrialStore,
-) -> TrialPacket
-    requires legal { IsLegal (plain_within packet) }
+    packet: VecPacket,
+    s: &mut VecStore,
+) -> VecPacket
+    requires legal { IsLegal (plain_of packet) }
     requires family { M.agrees m tt }
 {
     let mut out = Outbox::new(alloc);
@@ -136,68 +133,80 @@ fn passed<M: Module<TrialPacket>>(
     packet
 }
 
-/// The packet's attribute at the place has this name and value.
-fn assert_number(rt: &impl Abort, packet: &TrialPacket, at: usize, name: &str, wanted: u64) {
-    assert!(rt; at < packet.attr_count());
-    let (found, value) = packet.attr_at(at);
-    assert_eq!(rt; found.bytes(), name.as_bytes());
-    assert!(rt; matches!(value, ValueView::Unsigned(number) if number == wanted));
-}
-
 /// The name of most bytes.
 const LONGEST: &str = "nnnnnnnnnnnnnnnnnnnnnnnnnnnnnnnnnnnnnnnnnnnnnnnnnnnnnnnnnnnnnnnn";
 
-/// A name that is taken away, of a packet with `key` 1 and `LONGEST` 2, and the attributes that are left.
-const NAMES: [(&str, &[(&str, u64)]); 6] = [
-    ("key", &[(LONGEST, 2)]),
-    (LONGEST, &[("key", 1)]),
-    ("ke", &[("key", 1), (LONGEST, 2)]),
-    ("keys", &[("key", 1), (LONGEST, 2)]),
-    ("Key", &[("key", 1), (LONGEST, 2)]),
-    ("n", &[("key", 1), (LONGEST, 2)]),
+/// The name of a packet's flag, the name that is taken away, and whether the flag stays.
+const NAMES: [(&str, &str, bool); 6] = [
+    ("key", "key", false),
+    (LONGEST, LONGEST, false),
+    ("key", "ke", true),
+    ("key", "keys", true),
+    ("key", "Key", true),
+    (LONGEST, "n", true),
 ];
 
 #[test]
 fn delattr_takes_the_attribute_of_its_name_alone(rt: HostRuntime) -> Result<(), Fail> {
     let alloc = rt.alloc();
-    let s = &mut TrialStore::new(alloc, 0);
-    let (key, longest) = (AttrName::read(b"key")?, AttrName::read(LONGEST.as_bytes())?);
-    for (name, left) in NAMES {
-        let packet = with_two(&rt, &key, &longest, s);
+    let s = &mut VecStore::new(alloc);
+    for (has, name, stays) in NAMES {
+        let flag = AttrName::read(has.as_bytes())?;
         let gone = AttrName::read(name.as_bytes())?;
+        let packet = flagged(&rt, &flag, s);
         let packet = passed(&rt, alloc, DelAttr::new(gone), packet, s);
         assert_eq!(rt; packet.bytes(), b"abc".as_slice());
-        assert_eq!(rt; packet.attr_count(), left.len());
-        for (at, (name, value)) in left.iter().enumerate() {
-            assert_number(&rt, &packet, at, name, *value);
-        }
+        assert_eq!(rt; packet.attr_count() == 1, stays);
+        assert_eq!(rt;
+            matches!(packet.value(&flag), Some(ValueView::Flag(true))),
+            stays
+        );
     }
     Ok(())
 }
 
+/// Feeds a module the packet that was put out, which is bare, and ends its flow.
+fn feed_on<M: Module<TrialPacket>>(
+    rt: &impl Abort,
+    out: &mut Outbox<TrialPacket>,
+    mut m: M,
+    s: &mut TrialStore,
+)
+    requires { M.agrees m tt }
+{
+    let packet = out.next().expect(rt, "no packet was put out");
+    assert!(rt; is_bare(&packet));
+    assert_eq!(rt; m.feed(packet, out, s), Ok(()));
+    assert_eq!(rt; m.finish(out, s), Ok(()));
+}
+
 #[test]
-fn a_chain_makes_no_second_packet(rt: HostRuntime) -> Result<(), Fail> {
-    let alloc = rt.alloc();
-    let s = &mut TrialStore::new(alloc, 0);
+fn a_chain_of_delattr_makes_no_second_packet(rt: HostRuntime) -> Result<(), Fail> {
+    let s = &mut TrialStore::new(rt.alloc(), 0);
     let key = AttrName::read(b"key")?;
-    let packet = with_two(&rt, &key, &key, s);
-    let packet = passed(&rt, alloc, DelAttr::new(key), packet, s);
-    assert!(rt; is_bare(&packet));
-    let mut packet = passed(&rt, alloc, DelAttr::new(key), packet, s);
-    assert!(rt; is_bare(&packet));
-    assert_eq!(rt; packet.bytes(), b"abc".as_slice());
-    assert!(rt; packet.dup(s).is_err());
+    let mut out = Outbox::new(rt.alloc());
+    let packet = TrialPacket::fresh(b"abc", s).expect(&rt, "no memory");
+    out.put(packet).expect(&rt, "no memory");
+    feed_on(&rt, &mut out, DelAttr::new(key), s);
+    feed_on(&rt, &mut out, DelAttr::new(key), s);
+    let mut last = out.next().expect(&rt, "no packet was put out");
+    assert_eq!(rt; last.bytes(), b"abc".as_slice());
+    assert!(rt; last.dup(s).is_err());
+    assert!(rt; out.next().is_none());
+    out.end();
     Ok(())
 }
 
 /// Asks a module through the bound, and gives it up.
 fn asked<M: Module<VecPacket>>(
+    rt: &impl Abort,
     mut m: M,
     command: Command,
     s: &mut VecStore,
 ) -> Result<Reply, ControlRefused>
     requires { M.agrees m tt }
 {
+    assert!(rt; m.fresh());
     let answer = m.control(command);
     m.give_up(s);
     answer
@@ -220,7 +229,7 @@ fn delattr_has_no_option(rt: HostRuntime) -> Result<(), Fail> {
     for option in OPTIONS {
         for command in [Command::Get(option), Command::Set(option, 0)] {
             assert_eq!(rt;
-                asked(DelAttr::new(key), command, s),
+                asked(&rt, DelAttr::new(key), command, s),
                 Err(ControlRefused::Unhandled)
             );
         }
