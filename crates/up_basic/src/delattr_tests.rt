@@ -6,7 +6,7 @@ use std::alloc::Global;
 use std::process::Abort;
 use std::test::Fail;
 use up_base::AttrName;
-use up_model::{Opt, Tally, ValueView, packets_stay_legal};
+use up_model::{MAX_ATTRS, MAX_PACKET, Opt, Tally, ValueView, packets_stay_legal};
 use up_shape::{
     Command, ControlRefused, LocalPacket, Module, Outbox, Reply, Trial, TrialPacket, TrialStore,
     VecPacket, VecStore, is_bare, tried,
@@ -95,14 +95,21 @@ fn five_thousand_packets_go_on(rt: HostRuntime) -> Result<(), Fail> {
     Ok(())
 }
 
-/// A packet `abc` with a flag of this name.
-fn flagged(rt: &impl Abort, name: &AttrName, s: &mut VecStore) -> VecPacket
-    ensures { IsLegal (plain_of result) }
+/// A packet of these bytes with a flag of this name.
+fn flagged<P: LocalPacket>(
+    rt: &impl Abort,
+    bytes: &[u8],
+    name: &AttrName,
+    s: &mut P::Store,
+) -> P
+    ensures legal { IsLegal (P.plain result) }
+    ensures family { P.fits result (P.Store.state s.new).family }
 {
-    let mut packet = VecPacket::fresh(b"abc", s).expect(rt, "no memory");
+    assert!(rt; bytes.len() <= MAX_PACKET as usize);
+    let mut packet = P::fresh(bytes, s).expect(rt, "no memory");
     packets_stay_legal();
     assert!(rt; !name.bytes().is_empty());
-    assert!(rt; packet.attr_count() < 64);
+    assert!(rt; packet.attr_count() < MAX_ATTRS);
     assert_eq!(rt; packet.set_attr(name, ValueView::Flag(true)), Ok(()));
     packet
 }
@@ -153,7 +160,7 @@ fn delattr_takes_the_attribute_of_its_name_alone(rt: HostRuntime) -> Result<(), 
     for (has, name, stays) in NAMES {
         let flag = AttrName::read(has.as_bytes())?;
         let gone = AttrName::read(name.as_bytes())?;
-        let packet = flagged(&rt, &flag, s);
+        let packet: VecPacket = flagged(&rt, b"abc", &flag, s);
         let packet = passed(&rt, alloc, DelAttr::new(gone), packet, s);
         assert_eq!(rt; packet.bytes(), b"abc".as_slice());
         assert_eq!(rt; packet.attr_count() == 1, stays);
