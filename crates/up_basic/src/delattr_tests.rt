@@ -45,6 +45,7 @@ fn delattr_leaves_the_bytes_of_packets(rt: HostRuntime) -> Result<(), Fail> {
     let alloc = rt.alloc();
     let key = AttrName::read(b"key")?;
     for trial in TRIALS {
+        assert!(rt; trial.wanted(alloc).is_ok());
         assert_eq!(rt;
             tried(alloc, DelAttr::new(key), &trial),
             trial.wanted(alloc)
@@ -96,12 +97,7 @@ fn five_thousand_packets_go_on(rt: HostRuntime) -> Result<(), Fail> {
 }
 
 /// A packet of these bytes with a flag of this name.
-fn flagged<P: LocalPacket>(
-    rt: &impl Abort,
-    bytes: &[u8],
-    name: &AttrName,
-    s: &mut P::Store,
-) -> P
+fn flagged<P: LocalPacket>(rt: &impl Abort, bytes: &[u8], name: &AttrName, s: &mut P::Store) -> P
     ensures legal { IsLegal (P.plain result) }
     ensures family { P.fits result (P.Store.state s.new).family }
 {

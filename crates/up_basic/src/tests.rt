@@ -45,6 +45,7 @@ const DROPPED: Trial<'static> = Trial {
 fn idem_and_dup_pass_on_what_they_take(rt: HostRuntime) {
     let alloc = rt.alloc();
     let wanted = PASSED_ON.wanted(alloc);
+    assert!(rt; wanted.is_ok());
     assert_eq!(rt; tried(alloc, Idem::new(), &PASSED_ON), wanted);
     assert_eq!(rt; tried(alloc, DupPipe::new(), &PASSED_ON), wanted);
 }
@@ -52,6 +53,7 @@ fn idem_and_dup_pass_on_what_they_take(rt: HostRuntime) {
 #[test]
 fn null_takes_all_and_counts_it(rt: HostRuntime) {
     let alloc = rt.alloc();
+    assert!(rt; DROPPED.wanted(alloc).is_ok());
     assert_eq!(rt;
         tried(alloc, NullPipe::new(), &DROPPED),
         DROPPED.wanted(alloc)

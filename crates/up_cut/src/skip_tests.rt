@@ -68,8 +68,24 @@ const TRIALS: [Trial<'static>; 4] = [
 fn skip_drops_short_packets_and_takes_the_first_bytes_of_others(rt: HostRuntime) {
     let alloc = rt.alloc();
     for trial in TRIALS {
+        assert!(rt; trial.wanted(alloc).is_ok());
         assert_eq!(rt; tried(alloc, Skip::new(), &trial), trial.wanted(alloc));
     }
+}
+
+#[test]
+fn a_packet_beyond_the_greatest_is_told_by_its_place(rt: HostRuntime) -> Result<(), Fail> {
+    let alloc = rt.alloc();
+    let long = vec![in alloc; 7; 1_048_577]?;
+    let taken = [b"ab".as_slice(), long.as_slice()];
+    let trial = Trial {
+        set: &[],
+        taken: &taken,
+        put: &[],
+        sums: NOTHING,
+    };
+    assert_eq!(rt; tried(alloc, Skip::new(), &trial), Err(Untried::TooLong(1)));
+    Ok(())
 }
 
 /// All bytes but the last.
