@@ -1,53 +1,49 @@
 //! The program: runs a graph of pipes over the files of the system.
 #![tactic(auto)]
 
+ghost use Rattle.std.specs.Prelude.{◌≡◌, drop, map, string_bytes, IfOk};
+
 use std::alloc::Global;
 use std::process::ExitCode;
-use std::rt::Env;
 use std::{env, io};
 use up_base::{NoMemory, Text, WordList};
 use up_outside::{FileDepot, StdErr, StdOut};
 use upipe_run::run;
 
-/// Why the words of the command line can't be had.
-#[derive(Debug, Drop)]
-enum WordsFault {
-    /// The system doesn't give them.
-    NotGiven,
-    NoMemory,
-}
-
-/// The words of the command line, without the program's own name.
-fn words_of<R: Env + AllocGlobal>(rt: &R) -> Result<WordList, WordsFault> {
-    let alloc: Global = rt.alloc();
+/// The words of a command line, of which the first is the program's own name: all but that.
+fn words_of(alloc: Global, given: &[String]) -> Result<WordList, NoMemory>
+    ensures { IfOk result (λ words. words ≡ map string_bytes (drop 1 given.now)) }
+{
     let mut words = WordList::new(alloc);
-    let given = match env::args(rt) {
-        Ok(given) => given,
-        Err(error) if error.kind() == io::ErrorKind::OutOfMemory => {
-            return Err(WordsFault::NoMemory);
-        }
-        Err(_) => return Err(WordsFault::NotGiven),
+    let rest = match given {
+        [_, rest @ ..] => rest,
+        [] => given,
     };
-    for word in given.skip(1) {
-        let Ok(word) = Text::from_str(alloc, word.as_str()) else {
-            return Err(WordsFault::NoMemory);
-        };
+    for word in rest {
+        let word = Text::from_str(alloc, word.as_str())?;
         if words.push(word).is_err() {
-            return Err(WordsFault::NoMemory);
+            return Err(NoMemory);
         }
     }
     Ok(words)
 }
 
 fn main(rt: HostRuntime) -> ExitCode {
-    let words = match words_of(&rt) {
-        Ok(words) => words,
-        Err(WordsFault::NotGiven) => return ExitCode::from(1),
-        Err(WordsFault::NoMemory) => return ExitCode::from(7),
+    let given = match env::args(&rt) {
+        Ok(given) => given,
+        Err(error) if error.kind() == io::ErrorKind::OutOfMemory => return ExitCode::from(7),
+        Err(_) => return ExitCode::from(1),
+    };
+    let alloc = rt.alloc();
+    let Ok(given) = given.collect::<Vec<String>>(alloc) else {
+        return ExitCode::from(7);
+    };
+    let Ok(words) = words_of(alloc, &given) else {
+        return ExitCode::from(7);
     };
     let mut depot = FileDepot::new(&rt);
     let mut out = StdOut::new(rt.stdout());
     let mut err = StdErr::new(rt.stderr());
-    let status = run(&rt, rt.alloc(), &words, &mut depot, &mut out, &mut err);
+    let status = run(&rt, alloc, &words, &mut depot, &mut out, &mut err);
     ExitCode::from(status)
 }

@@ -2,7 +2,8 @@
 use Rattle.std.proofs.Common.{◌≡◌, ℕ, ◌+◌, List, [], ◌++◌, length, Bool, true, false, not, Option, refl, sym, ap, ◌∙◌, append_assoc, append-nil, arith, length-append}
 use Rattle.std.specs.Io.KnownBytes.{Consumes}
 use Rattle.std.proofs.KnownBytes.{Consumes-trans, Appends-trans, Consumes-nil, Appends-nil}
-use Rattle.upipe_run.specs.Flow.{IsPrefixOf, Puts, Moves}
+use Rattle.upipe_run.specs.Flow.{Puts, Moves}
+use Rattle.upipe_run.specs.Prefix.{IsPrefixOf}
 
 pub moves_nothing : (left written : Option (List ℕ)) (complete : Bool) (count : ℕ) → count ≡ 0 → Moves left left written written complete count
 moves_nothing left written complete count none = record {

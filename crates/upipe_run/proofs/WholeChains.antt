@@ -1,8 +1,8 @@
 -- A chain whose bytes were copied has a whole output.
-use Rattle.std.proofs.Common.{◌≡◌, ℕ, zero, suc, ◌+◌, ◌-◌, ◌<◌, ◌≤◌, List, [], ◌∷◌, length, Option, Some, None, IfSome, slice_get, refl, sym, ap, ◌∙◌, arith, inl, inr}
+use Rattle.std.proofs.Common.{◌≡◌, ℕ, zero, suc, ◌+◌, ◌-◌, ◌<◌, ◌≤◌, List, [], length, Option, Some, slice_get, refl, sym, ap, ◌∙◌, arith, inl, inr}
 use Rattle.std.specs.Prelude.{unwrap_or, option_and_then}
 use Rattle.std.specs.FinMap.{get}
-use Rattle.std.proofs.lemmas.Bool.{cases_lt, le-ltb}
+use Rattle.std.proofs.lemmas.Bool.{cases_lt, le-ltb, lt-ltb}
 use Rattle.up_model.proofs.Chains.{sink_bytes-chain}
 use Rattle.up_model.proofs.Cuts.{joined-blocks}
 use Rattle.up_model.specs.Chain.{IsChain, IsRawSource, IsRawSink}
@@ -14,22 +14,16 @@ use Rattle.up_model.specs.declared.form.SinkForm.TheVariants as sink_forms
 use Rattle.up_model.specs.declared.form.SourceForm.TheVariants as source_forms
 use Rattle.up_model.specs.declared.kind.Kind.{Kind}
 use Rattle.up_model.specs.declared.kind.Kind.TheVariants.{Source, Sink, Idem}
-use Rattle.up_model.specs.declared.outcome.Outcome.TheVariants.{Whole}
+use Rattle.up_model.specs.declared.outcome.Outcome.TheVariants.{Whole, TooLong}
 use Rattle.up_model.specs.declared.pipe.Pipe.{Pipe}
 use Rattle.up_outside.specs.Held.{Held}
-use Rattle.upipe_run.specs.Carried.{IsCopied}
+use Rattle.upipe_run.specs.Walk.{IsCopied}
 use Rattle.upipe_run.specs.ChainEnds.{HasEnds}
-use Rattle.upipe_run.specs.ChainRuns.{RanChain}
-use Rattle.upipe_run.specs.WholeOutput.{flow_of, flow_by, given_by, IsWholeSource, IsWholeSink, Copies, path_by}
+use Rattle.up_outside.specs.declared.asked.Side.TheVariants as sides
+use Rattle.upipe_run.specs.Paths.{path_on}
+use Rattle.upipe_run.specs.WholeOutput.{flow_of, flow_by, given_by, IsWholeSource, IsWholeSink, IsWholeOutput, Copies}
+use Rattle.upipe_run.proofs.ChainPaths.{below, same_pipe}
 use Rattle.upipe_run.specs.declared.chain.ChainEnds.{ChainEnds}
-
-pub below : (pipes : List Pipe) (place : ℕ) (pipe : Pipe) → slice_get pipes place ≡ Some pipe → place < length pipes
-below [] place pipe at = absurd (cc)
-below (p ∷ pipes) zero pipe at = omega arith
-below (p ∷ pipes) (suc place) pipe at = let rest = below pipes place pipe at in omega arith
-
-pub same_pipe : (a b : Pipe) → Some a ≡ Some b → a ≡ b
-same_pipe a b same = cc
 
 sink_is_no_source : (held : Held) (kind : Kind) → IsRawSink kind → IsWholeSource held kind
 sink_is_no_source held (Sink path form) is = tt
@@ -39,8 +33,11 @@ source_is_no_sink : (held : Held) (wanted : List ℕ) (kind : Kind) → IsRawSou
 source_is_no_sink held wanted (Source path form limit) is = tt
 source_is_no_sink held wanted kind is = absurd is
 
-abbrev path_of : Option Pipe → Option (List ℕ)
-path_of found = option_and_then (λ (pipe : Pipe). path_by pipe.kind) found
+abbrev source_path : Option Pipe → Option (List ℕ)
+source_path found = option_and_then (λ (pipe : Pipe). path_on sides.Source pipe.kind) found
+
+abbrev sink_path : Option Pipe → Option (List ℕ)
+sink_path found = option_and_then (λ (pipe : Pipe). path_on sides.Sink pipe.kind) found
 
 same_path : (a b : List ℕ) → Some a ≡ Some b → a ≡ b
 same_path a b same = cc
@@ -94,23 +91,22 @@ module _ (before : Held) (pipes : List Pipe) (ends : ChainEnds) (chain : IsChain
 
   copies : (now : Held) (bytes : List ℕ) → get before ends.from.now ≡ Some bytes → get now ends.to.now ≡ Some bytes → Copies before now pipes
   copies now bytes at_source at_sink from to first last =
-      let same_from : ends.from.now ≡ from = same_path _ _ (sym (ap path_of has.first ∙ ap path_by has.reads) ∙ first) in
-      let same_to : ends.to.now ≡ to = same_path _ _ (sym (ap path_of has.last ∙ ap path_by has.writes) ∙ last) in
+      let same_from : ends.from.now ≡ from = same_path _ _ (sym (ap source_path has.first ∙ ap (path_on sides.Source) has.reads) ∙ first) in
+      let same_to : ends.to.now ≡ to = same_path _ _ (sym (ap sink_path has.last ∙ ap (path_on sides.Sink) has.writes) ∙ last) in
       rw (← same_from, ← same_to) (at_sink ∙ sym at_source)
 
-  chain_ran : (after : Option Held) → IsCopied before after ends.from.now ends.to.now ends.limit → RanChain before after pipes
-  chain_ran after copied = record {
-    now = copied.now;
-    told = copied.told;
-    whole = record {
+  pub chain_ran : (after : Held) → IsCopied ends.from.now ends.to.now ends.limit before after → IsWholeOutput before after pipes × Copies before after pipes
+  chain_ran after copied = (
+    record {
       sources = source_whole copied.bytes copied.at_source copied.within;
-      sinks = sink_whole copied.now copied.bytes copied.at_source copied.within copied.at_sink;
-    };
-    copied = copies copied.now copied.bytes copied.at_source copied.at_sink;
-  }
+      sinks = sink_whole after copied.bytes copied.at_source copied.within copied.at_sink;
+    },
+    copies after copied.bytes copied.at_source copied.at_sink,
+  )
 
--- the run of a chain, where it is told
-pub ran_told : (h0 h1 : Option Held) (pipes : List Pipe) (ends : ChainEnds) → IsChain pipes → HasEnds pipes ends
-    → IfSome h0 (λ before. IsCopied before h1 ends.from.now ends.to.now ends.limit) → IfSome h0 (λ before. RanChain before h1 pipes)
-ran_told None h1 pipes ends chain has copied = tt
-ran_told (Some before) h1 pipes ends chain has copied = chain_ran before pipes ends chain has h1 copied
+  -- the source's outcome, by its bytes
+  pub whole_outcome : (bytes : List ℕ) → length bytes ≤ ends.limit → outcome_of has.source.kind bytes ≡ Whole
+  whole_outcome bytes within = ap (λ kind. outcome_of kind bytes) has.reads ∙ whole_within bytes within
+
+  pub long_outcome : (bytes : List ℕ) → ends.limit < length bytes → outcome_of has.source.kind bytes ≡ TooLong ends.limit
+  long_outcome bytes beyond = ap (λ kind. outcome_of kind bytes) has.reads ∙ (rw (lt-ltb ends.limit (length bytes) beyond) refl)

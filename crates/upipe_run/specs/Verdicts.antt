@@ -1,8 +1,13 @@
--- The verdict of a run, by how its flow ended.
-use Rattle.std.specs.Prelude.{Bool, not, ◌&&◌, if◌then◌else◌, Result, Ok, Err}
+-- The verdict of a walk, by how its flow ended, and the ending of the run.
+use Rattle.std.specs.Prelude.{◌≡◌, ℕ, ◌-◌, List, length, Bool, not, ◌&&◌, if◌then◌else◌, Result, Ok, Err}
 use Rattle.up_base.specs.declared.refusal.NoMemory.{NoMemory as WantOfMemory}
 use Rattle.up_base.specs.declared.refusal.Refusal.{Refusal}
 use Rattle.up_base.specs.declared.refusal.Refusal.TheVariants as refusals
+use Rattle.up_model.specs.declared.pipe.Pipe.{Pipe}
+use Rattle.up_report.specs.declared.fault.Fault.TheVariants as faults
+use Rattle.upipe_run.specs.Causes.{IsNamed}
+use Rattle.upipe_run.specs.declared.ending.Ending.{Ending}
+use Rattle.upipe_run.specs.declared.ending.Ending.TheVariants as endings
 use Rattle.upipe_run.specs.declared.flow.End.{End}
 use Rattle.upipe_run.specs.declared.flow.End.TheVariants as ends
 use Rattle.upipe_run.specs.declared.flow.FlowEnd.{FlowEnd}
@@ -24,3 +29,15 @@ verdict_of (Err refused) shut = NoMemory
 abbrev pub sink_refused : Refusal → Verdict
 sink_refused refusals.Failed = WriteFault
 sink_refused refusals.NoMemory = NoMemory
+
+-- the ending names the pipe: the source stands first, the sink last
+abbrev pub Names : List Pipe → ℕ → Verdict → Ending → Type 0
+Names pipes limit Whole ending = ending ≡ endings.Whole
+Names pipes limit ReadFault ending =
+    (name : List ℕ) × IsNamed pipes 0 name × (ending ≡ endings.Faulty (faults.Read name))
+Names pipes limit WriteFault ending =
+    (name : List ℕ) × IsNamed pipes (length pipes - 1) name
+    × (ending ≡ endings.Faulty (faults.Write name))
+Names pipes limit TooLong ending =
+    (name : List ℕ) × IsNamed pipes 0 name × (ending ≡ endings.Faulty (faults.TooLong name limit))
+Names pipes limit NoMemory ending = ending ≡ endings.NoMemory

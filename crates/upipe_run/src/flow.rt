@@ -1,7 +1,6 @@
-ghost use Rattle.std.specs.Prelude.{◌≡◌, ◌<◌, ◌≤◌, ◌^◌, true, length, IfOk};
-ghost use Rattle.up_outside.specs.Counts.{Rose};
-ghost use Rattle.upipe_run.specs.Flow.{Carries};
-ghost use Rattle.upipe_run.specs.Objects.{IsSameObject, StaysTold};
+ghost use Rattle.std.specs.Prelude.{◌≡◌, ◌<◌, ◌≤◌, ◌^◌, length, IfOk};
+ghost use Rattle.up_outside.specs.Counts.{CountsWhere};
+ghost use Rattle.upipe_run.specs.Flow.{Carries, IsSameSink, source_failed};
 
 use crate::drain::put;
 use crate::fill::{Filled, Stop, fill};
@@ -37,17 +36,14 @@ pub fn carry<S: Source, K: Sink>(
 ) -> Result<FlowEnd, NoMemory>
     requires room { 0 < length room.old }
     requires limit { limit ≤ 2 ^ 40 }
-    ensures bytes { Carries (S.left source.old) (S.left source.new) (K.written sink.old)
-        (K.written sink.new) (S.moved source.old) (S.moved source.new) limit result }
-    ensures read_fault { IfOk result (λ flow. flow.source ≡ End.ReadFault
-        → Rose (S.faults source.old) (S.faults source.new)) }
-    ensures write_fault { IfOk result (λ flow. flow.sink_failed ≡ true
-        → Rose (K.faults sink.old) (K.faults sink.new)) }
-    ensures same_source { IsSameObject (S.place source.old) (S.place source.new)
-        (S.faults source.old) (S.faults source.new) }
-    ensures same_sink { IsSameObject (K.place sink.old) (K.place sink.new)
-        (K.faults sink.old) (K.faults sink.new) }
-    ensures sink_sum { StaysTold (K.moved sink.old) (K.moved sink.new) }
+    ensures carries { Carries (S.state source.old) (S.state source.new)
+        (K.state sink.old) (K.state sink.new) limit result }
+    ensures read_faults { CountsWhere (source_failed result)
+        (S.state source.old).faults (S.state source.new).faults }
+    ensures write_faults { IfOk result (λ flow. CountsWhere flow.sink_failed
+        (K.state sink.old).faults (K.state sink.new).faults) }
+    ensures same_source { (S.state source.new).place ≡ (S.state source.old).place }
+    ensures same_sink { IsSameSink (K.state sink.old) (K.state sink.new) }
 {
     let mut left = limit;
     let mut sink_failed = false;

@@ -1,7 +1,9 @@
-ghost use Rattle.std.specs.Prelude.{◌≡◌, ◌≤◌, Some, length, take, IfOk, IfSome};
-ghost use Rattle.up_outside.specs.Counts.{RefusedByCause};
-ghost use Rattle.upipe_run.specs.Asks.{AsksText};
-ghost use Rattle.upipe_run.specs.GraphText.{IsStartAt};
+ghost use Rattle.std.specs.Prelude.{◌≡◌, ◌≤◌, length, take, IfOk, IfSome};
+ghost use Rattle.up_outside.specs.Counts.{is_failed};
+ghost use Rattle.up_outside.specs.DepotCalls.{CountsFaults};
+ghost use Rattle.up_outside.specs.Told.{Then};
+ghost use Rattle.up_outside.specs.declared.asked.Side.TheVariants.{Source as OfSource};
+ghost use Rattle.upipe_run.specs.GraphText.{IsStartAt, AsksText};
 
 use crate::fill::{Stop, fill};
 use std::alloc::Global;
@@ -11,13 +13,13 @@ use up_outside::Depot;
 /// Fills a room with the first bytes at a path, and says how many they are. The source is closed, whatever happens.
 fn read_start<D: Depot>(path: &str, depot: &mut D, room: &mut [u8]) -> Result<usize, Refusal>
     ensures fits { IfOk result (λ count. count ≤ length room.new) }
-    ensures read { IfOk result (λ count. IfSome (D.held depot.old) (λ before.
-        IsStartAt before path.now (length room.old) (take count room.new))) }
-    ensures held { IfSome (D.held depot.old) (λ before. D.held depot.new ≡ Some before) }
-    ensures asked { IfSome (D.asked depot.old) (λ before.
-        AsksText before (D.asked depot.new) path.now result) }
-    ensures cause { RefusedByCause (D.source_faults depot.old) (D.source_faults depot.new) result }
-    ensures sinks { D.sink_faults depot.old ≤ D.sink_faults depot.new }
+    ensures read { IfOk result (λ count. IfSome (D.state depot.old).held
+        (IsStartAt path.now (length room.old) (take count room.new))) }
+    ensures held { (D.state depot.new).held ≡ (D.state depot.old).held }
+    ensures asked { Then (AsksText path.now (length room.old) result)
+        (D.state depot.old).asked (D.state depot.new).asked }
+    ensures counts { CountsFaults (D.state depot.old) (D.state depot.new) OfSource
+        (is_failed result) }
 {
     let mut source = match depot.open_source(path) {
         Ok(source) => source,
@@ -39,13 +41,13 @@ pub fn read_text<D: Depot>(
     most: usize,
     depot: &mut D,
 ) -> Result<Vec<u8>, Refusal>
-    ensures read { IfOk result (λ text. IfSome (D.held depot.old) (λ before.
-        IsStartAt before path.now most text.items)) }
-    ensures held { IfSome (D.held depot.old) (λ before. D.held depot.new ≡ Some before) }
-    ensures asked { IfSome (D.asked depot.old) (λ before.
-        AsksText before (D.asked depot.new) path.now result) }
-    ensures cause { RefusedByCause (D.source_faults depot.old) (D.source_faults depot.new) result }
-    ensures sinks { D.sink_faults depot.old ≤ D.sink_faults depot.new }
+    ensures read { IfOk result (λ text. IfSome (D.state depot.old).held
+        (IsStartAt path.now most text.items)) }
+    ensures held { (D.state depot.new).held ≡ (D.state depot.old).held }
+    ensures asked { Then (AsksText path.now most result)
+        (D.state depot.old).asked (D.state depot.new).asked }
+    ensures counts { CountsFaults (D.state depot.old) (D.state depot.new) OfSource
+        (is_failed result) }
 {
     let Ok(mut text) = vec![in alloc; 0u8; most] else {
         return Err(Refusal::NoMemory);

@@ -3,22 +3,23 @@
 
 mod chain;
 mod drain;
-mod fault;
+mod ending;
 mod fill;
 mod flow;
 mod graph_text;
-mod line;
+mod laws;
 mod path;
 mod program;
 mod tell;
 mod verdict;
-mod words;
 
+pub use ending::Ending;
+pub use laws::{runs_ask_all, runs_complete, runs_have_statuses};
 pub use program::{run, run_single};
 
 #[cfg(test)]
 mod fault_tests;
 #[cfg(test)]
-mod line_tests;
+mod tell_tests;
 #[cfg(test)]
 mod tests;

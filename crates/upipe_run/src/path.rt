@@ -1,8 +1,6 @@
 // The bytes at one path are carried to another.
-ghost use Rattle.std.specs.Prelude.{◌≡◌, ◌⊎◌, ◌<◌, ◌≤◌, ◌^◌, IfSome};
-ghost use Rattle.up_outside.specs.Held.{KeepsOthers};
-ghost use Rattle.upipe_run.specs.Carried.{IsCopied, IsTooLong, IsWithin, HasVerdictCause};
-ghost use Rattle.upipe_run.specs.Asks.{AsksPaths, EndsRefused};
+ghost use Rattle.std.specs.Prelude.{◌<◌, ◌≤◌, ◌^◌};
+ghost use Rattle.upipe_run.specs.Walk.{Walks};
 
 use crate::flow::carry;
 use crate::verdict::{Verdict, sink_refused, verdict_of};
@@ -22,18 +20,7 @@ pub fn carry_path<D: Depot>(
 ) -> Verdict
     requires block { 0 < block }
     requires limit { limit ≤ 2 ^ 40 }
-    ensures copied { IfSome (D.held depot.old) (λ before. result ≡ Verdict.Whole
-        → IsCopied before (D.held depot.new) from.now to.now limit) }
-    ensures too_long { IfSome (D.held depot.old) (λ before. result ≡ Verdict.TooLong
-        → IsTooLong before from.now limit) }
-    ensures sink_last { IfSome (D.held depot.old) (λ before. result ≡ Verdict.WriteFault
-        → IsWithin before from.now limit ⊎ EndsRefused (D.asked depot.old) (D.asked depot.new)) }
-    ensures others { IfSome (D.held depot.old) (λ before.
-        KeepsOthers before (D.held depot.new) to.now) }
-    ensures asked { IfSome (D.asked depot.old) (λ before.
-        AsksPaths before (D.asked depot.new) from.now to.now result) }
-    ensures cause { HasVerdictCause (D.source_faults depot.old) (D.source_faults depot.new)
-        (D.sink_faults depot.old) (D.sink_faults depot.new) result }
+    ensures { Walks from.now to.now limit (D.state depot.old) (D.state depot.new) result }
 {
     let Ok(mut room) = vec![in alloc; 0u8; block as usize] else {
         return Verdict::NoMemory;

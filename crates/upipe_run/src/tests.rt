@@ -6,7 +6,7 @@ use std::sync::Wait;
 use std::test::Fail;
 use std::thread::Threads;
 use up_base::{Text, WordList};
-use up_outside::{Mark, MemDepot, MemSink};
+use up_outside::{Mark, MemDepot, MemSink, Side};
 
 /// The words that run the graph at `g.toml`.
 pub(crate) const RUN: [&str; 2] = ["run", "g.toml"];
@@ -286,19 +286,21 @@ fn a_single_run_is_the_run_of_its_path(rt: HostRuntime) -> Result<(), Fail> {
     Ok(())
 }
 
-/// Graph texts and what a run of each tells, where `i` has eleven bytes.
-const TOLD: [(&str, u8, &str); 9] = [
+/// Graph texts, what a run of each tells, and what `o` then has, where `i` has eleven bytes and `o` had `old`.
+const TOLD: [(&str, u8, &str, &str); 10] = [
     (
         "version = 1\npipe = [{name = 'in', kind = 'source', path = 'i', limit = 10}, \
             {name = 'out', kind = 'sink', input = 'in', path = 'o'}]",
         8,
         "upipe: too long: pipe in limit 10\n",
+        "",
     ),
     (
         "version = 1\npipe = [{name = 'capture', kind = 'source', path = 'missing'}, \
             {name = 'out', kind = 'sink', input = 'capture', path = 'o'}]",
         4,
         "upipe: read fault: pipe capture\n",
+        "old",
     ),
     (
         "version = 1\npipe = [{name = 'in', kind = 'source', path = 'i'}, \
@@ -306,34 +308,46 @@ const TOLD: [(&str, u8, &str); 9] = [
             {name = 'out', kind = 'sink', input = 'mid', path = 'o'}]",
         3,
         "upipe: graph: pipe 2: bad field kind\n",
+        "old",
     ),
     (
         "version = 1\npipe = [{name = 'in', kind = 'source', path = 'i'}, \
             {name = 'out', kind = 'sink', input = 'x', path = 'o'}]",
         3,
         "upipe: graph: pipe 2: bad field input\n",
+        "old",
     ),
-    ("version = 1", 3, "upipe: graph: no pipes\n"),
-    ("version = 3", 3, "upipe: graph: bad version\n"),
-    ("version", 3, "upipe: graph: not toml\n"),
+    ("version = 1", 3, "upipe: graph: no pipes\n", "old"),
+    ("version = 3", 3, "upipe: graph: bad version\n", "old"),
+    ("version", 3, "upipe: graph: not toml\n", "old"),
     (
         "version = 1\n'a\\b' = 2\npipe = [{}]",
         3,
         "upipe: graph: top: bad field a\\x5cb\n",
+        "old",
     ),
     (
         "version = 1\npipe = [{name = 'in', kind = 'source', path = 'i', '\u{e9}' = 1}]",
         3,
         "upipe: graph: pipe 1: bad field kind\n",
+        "old",
+    ),
+    (
+        "version = 1\npipe = [{name = 'in', kind = 'source', path = 'i', limit = 11}, \
+            {name = 'out', kind = 'sink', input = 'in', path = 'o'}]",
+        0,
+        "",
+        "0123456789a",
     ),
 ];
 
 #[test]
 fn each_status_tells_its_line_and_leaves_the_sink(rt: HostRuntime) -> Result<(), Fail> {
     let alloc = rt.alloc();
-    for (text, status, line) in TOLD {
+    for (text, status, line, left) in TOLD {
         let mut depot = depot_of(alloc, text.as_bytes())?;
         depot.hold("i", b"0123456789a")?;
+        depot.hold("o", b"old")?;
         let mut err = MemSink::new(alloc);
         assert_eq!(rt;
             told_status_of(&rt, alloc, &RUN, &mut depot, &mut err)?,
@@ -341,7 +355,7 @@ fn each_status_tells_its_line_and_leaves_the_sink(rt: HostRuntime) -> Result<(),
             "{text}"
         );
         assert_eq!(rt; err.bytes(), line.as_bytes(), "{text}");
-        assert_eq!(rt; depot.bytes("o").unwrap_or(b"").len(), 0, "{text}");
+        assert_eq!(rt; depot.bytes("o"), Some(left.as_bytes()), "{text}");
     }
     let mut depot = MemDepot::new(alloc);
     let mut err = MemSink::new(alloc);
@@ -353,5 +367,35 @@ fn each_status_tells_its_line_and_leaves_the_sink(rt: HostRuntime) -> Result<(),
     let told: &[u8] =
         b"upipe: read fault: graph\nusage: upipe check GRAPH | upipe run [--single] [--pool] GRAPH | upipe work [--single] N\n";
     assert_eq!(rt; err.bytes(), told);
+    assert_eq!(rt; depot.bytes("o"), None);
+    Ok(())
+}
+
+#[test]
+fn a_run_asks_in_order_and_reads_one_byte_beyond_the_limit(rt: HostRuntime) -> Result<(), Fail> {
+    let alloc = rt.alloc();
+    let text = chain_text(alloc, &[], ", limit = 5000")?;
+    let mut depot = depot_of(alloc, text.as_bytes())?;
+    depot.hold("i", &numbered_bytes(alloc, 10_000)?)?;
+    assert_eq!(rt; status_of(&rt, alloc, &RUN, &mut depot)?, 8);
+    let asked = depot.asked();
+    let size = text.len() as u64;
+    let wanted = [
+        ("g.toml", Side::Source, size),
+        ("i", Side::Source, 5_001),
+        ("o", Side::Sink, 4_096),
+    ];
+    assert_eq!(rt; asked.len(), 3);
+    for (entry, (path, side, moved)) in asked.iter().zip(wanted) {
+        let mark = Mark::Closed {
+            moved,
+            failed: false,
+            shut: true,
+        };
+        assert_eq!(rt;
+            (entry.path.as_str(), entry.side, entry.mark),
+            (path, side, mark)
+        );
+    }
     Ok(())
 }

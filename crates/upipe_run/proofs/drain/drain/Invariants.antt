@@ -1,16 +1,16 @@
-use Rattle.std.proofs.Common.{◌≤◌, ◌-◌, length, take}
+use Rattle.std.proofs.Common.{◌≡◌, ◌≤◌, ◌-◌, length, take}
 use Rattle.std.specs.Io.KnownBytes.{Appends}
-use Rattle.upipe_run.specs.Objects.{IsSameObject, StaysTold}
+use Rattle.upipe_run.specs.Flow.{IsSameSink}
 use Rattle.upipe_run.proofs.drain.drain.Given as goal
 
 abbrev pub invariant-loop-count : goal.invariant-loop-count
 invariant-loop-count g l =
-    let sink = g.K.Sink in
+    let state = g.K.Sink.state in
     record {
       within : l.count ≤ length l.piece;
-      bytes : Appends (sink.written l.initial.sink) (sink.written l.sink) (take l.count l.piece);
-      sum : StaysTold (sink.moved l.initial.sink) (sink.moved l.sink);
-      same : IsSameObject (sink.place l.initial.sink) (sink.place l.sink) (sink.faults l.initial.sink) (sink.faults l.sink);
+      bytes : Appends (state l.initial.sink).written (state l.sink).written (take l.count l.piece);
+      faults : (state l.sink).faults ≡ (state l.initial.sink).faults;
+      same : IsSameSink (state l.initial.sink) (state l.sink);
     }
 
 abbrev pub decreases-loop-count : goal.decreases-loop-count

@@ -1,20 +1,28 @@
-use Rattle.std.proofs.Common.{rules, ◌≡◌, subst, ap, Err, inl, inr}
-use Rattle.upipe_run.specs.Lines.{line_of, AppendsPrefix}
+use Rattle.std.proofs.Common.{rules, ◌≡◌, refl, subst, inl, inr}
+use Rattle.up_report.specs.Lines.{fault_bytes}
+use Rattle.upipe_run.specs.Tells.{AppendsPrefix}
 use Rattle.upipe_run.proofs.Drained.{prefix_drained}
 use Rattle.upipe_run.proofs.tell.tell.Goals as goal
 
-pub returns-in-Err-Failed-clause-line : goal.returns-in-Err-Failed-clause-line
-returns-in-Err-Failed-clause-line g c status =
-    let failed = c.in-Err-Failed.ensures in
-    let line : c.as_slice.result.now ≡ line_of c.args.fault.now = search rules in
-    inr (subst (AppendsPrefix _ _) line (prefix_drained _ _ _ failed.prefix), failed.cause.failed (ap Err c.in-Err-Failed.field-0-is))
+pub returns-in-Err-Failed : goal.returns-in-Err-Failed
+returns-in-Err-Failed g c =
+    let old = g.E.Sink.state c.args.err.now in
+    let new = g.E.Sink.state c.drain.new.sink in
+    let line : c.as_slice.result.now ≡ fault_bytes c.args.fault.now = search rules in
+    let prefix = subst (AppendsPrefix old new) line (prefix_drained old new _ c.in-Err-Failed.ensures.prefix) in
+    record {
+      status_is = inl c.status-in-Err-Failed.ensures;
+      line = λ status. inr (prefix, (rw c.in-Err-Failed.field-0-is at c.in-Err-Failed.ensures.faults).rose refl);
+      prefix = inl prefix;
+    }
 
-pub returns-in-Err-Failed-clause-prefix : goal.returns-in-Err-Failed-clause-prefix
-returns-in-Err-Failed-clause-prefix g c =
-    let line : c.as_slice.result.now ≡ line_of c.args.fault.now = search rules in
-    inl (subst (AppendsPrefix _ _) line (prefix_drained _ _ _ c.in-Err-Failed.ensures.prefix))
-
-pub returns-in-Ok-clause-prefix : goal.returns-in-Ok-clause-prefix
-returns-in-Ok-clause-prefix g c =
-    let line : c.as_slice.result.now ≡ line_of c.args.fault.now = search rules in
-    inl (subst (AppendsPrefix _ _) line (prefix_drained _ _ _ c.in-Err-NoMemory.ensures.prefix))
+pub returns-in-Ok : goal.returns-in-Ok
+returns-in-Ok g c =
+    let old = g.E.Sink.state c.args.err.now in
+    let new = g.E.Sink.state c.drain.new.sink in
+    let line : c.as_slice.result.now ≡ fault_bytes c.args.fault.now = search rules in
+    record {
+      status_is = inr refl;
+      line = λ status. absurd (status refl);
+      prefix = inl (subst (AppendsPrefix old new) line (prefix_drained old new _ c.in-Err-NoMemory.ensures.prefix));
+    }

@@ -1,8 +1,13 @@
-use Rattle.std.proofs.Common.{subst}
-use Rattle.upipe_run.specs.Lines.{AppendsPrefix}
+use Rattle.std.proofs.Common.{refl, subst}
+use Rattle.upipe_run.specs.Tells.{AppendsPrefix}
 use Rattle.upipe_run.proofs.Drained.{drained}
 use Rattle.upipe_run.proofs.tell.tell_no_memory.Goals as goal
 
-pub returns-clause-prefix : goal.returns-clause-prefix
-returns-clause-prefix g c =
-    subst (AppendsPrefix _ _) c.as_bytes.ensures.value (drained _ _ _ _ c.drain.ensures.whole c.drain.ensures.prefix)
+pub returns : goal.returns
+returns g c =
+    let old = g.E.Sink.state c.args.err.now in
+    let new = g.E.Sink.state c.drain.new.sink in
+    record {
+      status_is = refl;
+      prefix = subst (AppendsPrefix old new) c.as_bytes.ensures.value (drained old new _ c.drain.result c.drain.ensures.whole c.drain.ensures.prefix);
+    }
