@@ -18,7 +18,9 @@ is_plain byte = is_within 0x20 0x7e byte && not (byte == 92)
 -- another byte is printed as `\x` and its two digits
 abbrev pub escape : ℕ → List ℕ
 escape byte =
-    if is_plain byte then byte ∷ [] else 92 ∷ 120 ∷ hex_digit (byte / 16) ∷ hex_digit (byte % 16) ∷ []
+    if is_plain byte
+    then byte ∷ []
+    else 92 ∷ 120 ∷ hex_digit (byte / 16) ∷ hex_digit (byte % 16) ∷ []
 
 abbrev pub escaped : List ℕ → List ℕ
 escaped text = flat_map escape text

@@ -1,5 +1,6 @@
 -- What a run asked whose graph is a chain, by how its walk ended.
 use Rattle.std.proofs.Common.{◌≡◌, ℕ, zero, suc, ◌+◌, ◌≤◌, List, [], ◌∷◌, ◌++◌, map, Bool, true, false, Option, Some, IfSome, slice_get, inl, inr, refl, sym, ap, subst, ◌∙◌, arith}
+use Rattle.up_base.specs.Lists.{IsPrefix}
 use Rattle.up_outside.specs.Asked.{ask_of, entry}
 use Rattle.up_outside.specs.Held.{Held}
 use Rattle.up_outside.specs.declared.asked.Entry.{Entry}
@@ -11,7 +12,6 @@ use Rattle.up_report.specs.declared.fault.Fault.TheVariants as faults
 use Rattle.upipe_run.specs.Asks.{AsksRun, IfGraph, StopsWell, ReadsWithin, is_clean, moved_by, CleanBefore}
 use Rattle.upipe_run.specs.OfGraph.{WithoutGraph}
 use Rattle.upipe_run.specs.Paths.{asks_of}
-use Rattle.upipe_run.specs.Prefix.{IsPrefixOf}
 use Rattle.upipe_run.specs.Walk.{WalkEntries}
 use Rattle.upipe_run.specs.declared.ending.Ending.TheVariants as endings
 use Rattle.upipe_run.specs.declared.verdict.Verdict.TheVariants.{Whole, ReadFault, WriteFault, TooLong, NoMemory}
@@ -60,8 +60,8 @@ module _ (path from to : List ℕ) (limit n : ℕ) (held : Option Held) (pipes :
   abbrev sink : ℕ → Bool → Bool → Entry
   sink written failed shut = entry to Sink (Closed written failed shut)
 
-  prefix : (grown : List Entry) → IsPrefixOf (map ask_of grown) ((path, Source) ∷ (from, Source) ∷ (to, Sink) ∷ []) → IfGraph path held (λ pipes. IsPrefixOf (map ask_of grown) (asks_of path pipes))
-  prefix grown is = if_graph (λ ps. IsPrefixOf (map ask_of grown) (asks_of path ps)) (subst (IsPrefixOf (map ask_of grown)) (sym same) is)
+  prefix : (grown : List Entry) → IsPrefix (map ask_of grown) ((path, Source) ∷ (from, Source) ∷ (to, Sink) ∷ []) → IfGraph path held (λ pipes. IsPrefix (map ask_of grown) (asks_of path pipes))
+  prefix grown is = if_graph (λ ps. IsPrefix (map ask_of grown) (asks_of path ps)) (subst (IsPrefix (map ask_of grown)) (sym same) is)
 
   stops : (grown : List Entry) → StopsWell grown ((path, Source) ∷ (from, Source) ∷ (to, Sink) ∷ []) → IfGraph path held (λ pipes. StopsWell grown (asks_of path pipes))
   stops grown is = if_graph (λ ps. StopsWell grown (asks_of path ps)) (subst (StopsWell grown) (sym same) is)
@@ -70,8 +70,8 @@ module _ (path from to : List ℕ) (limit n : ℕ) (held : Option Held) (pipes :
       → IfGraph path held (λ ps. (at : ℕ) (e : Entry) → slice_get (text ∷ rest) (suc at) ≡ Some e → ReadsWithin ps e)
   sources rest within = if_graph (λ ps. (at : ℕ) (e : Entry) → slice_get (text ∷ rest) (suc at) ≡ Some e → ReadsWithin ps e) within
 
-  alone : (grown : List Entry) → IfSome held (λ m. WithoutGraph m path (IsPrefixOf (map ask_of grown) ((path, Source) ∷ [])))
-  alone grown = has_graph (IsPrefixOf (map ask_of grown) ((path, Source) ∷ []))
+  alone : (grown : List Entry) → IfSome held (λ m. WithoutGraph m path (IsPrefix (map ask_of grown) ((path, Source) ∷ [])))
+  alone grown = has_graph (IsPrefix (map ask_of grown) ((path, Source) ∷ []))
 
   both_within : (read : ℕ) (failed : Bool) (written : ℕ) (sink_failed shut : Bool) → read ≤ limit + 1
       → (at : ℕ) (e : Entry) → slice_get (source read failed ∷ sink written sink_failed shut ∷ []) at ≡ Some e → ReadsWithin pipes e

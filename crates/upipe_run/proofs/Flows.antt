@@ -9,7 +9,7 @@ use Rattle.up_outside.specs.DepotCalls.{IsSourceOf, IsEmptySink}
 use Rattle.up_outside.specs.Held.{KeepsOthers}
 use Rattle.up_outside.specs.States.{DepotState, SourceState, SinkState}
 use Rattle.up_outside.specs.Told.{Then}
-use Rattle.upipe_run.specs.Flow.{Carries, source_failed, is_broken, is_complete}
+use Rattle.upipe_run.specs.Flow.{Carries, source_failed, read_failed, is_complete}
 use Rattle.upipe_run.specs.Verdicts.{verdict_of}
 use Rattle.upipe_run.specs.Walk.{Walks}
 use Rattle.upipe_run.specs.declared.flow.End.TheVariants as ends
@@ -40,7 +40,7 @@ module _ (from to : List ℕ) (limit : ℕ) (s0 s1 s2 s3 s4 : DepotState) (opene
       walks_out_of_memory from to limit s0 s4 carries.count carries.within (others_kept s0.held s1.held s2.held s3.held s4.held to same1 others2 same3 others4)
       (nat_lt 0 sink.faults || not (is_ok closed)) (is_ok closed) (rw unfailed at pair) (rw unfailed at sources) sinks.later
   walks_flow (Ok flow) carries read write pair sources sinks =
-      let source_flag = same_flag (is_broken flow.source) opened.faults source.faults opens.fresh read in
+      let source_flag = same_flag (read_failed flow.source) opened.faults source.faults opens.fresh read in
       let sink_flag = same_flag flow.sink_failed opened_sink.faults sink.faults empty.fresh write in
       walks_both from to limit s0 s4 carries.count carries.within (others_kept s0.held s1.held s2.held s3.held s4.held to same1 others2 same3 others4)
       flow.source flow.sink_failed (is_ok closed)

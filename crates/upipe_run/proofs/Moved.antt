@@ -2,8 +2,8 @@
 use Rattle.std.proofs.Common.{◌≡◌, ℕ, ◌+◌, List, [], ◌++◌, length, Bool, true, false, not, Option, refl, sym, ap, ◌∙◌, append_assoc, append-nil, arith, length-append}
 use Rattle.std.specs.Io.KnownBytes.{Consumes}
 use Rattle.std.proofs.KnownBytes.{Consumes-trans, Appends-trans, Consumes-nil, Appends-nil}
+use Rattle.up_base.specs.Lists.{IsPrefix}
 use Rattle.upipe_run.specs.Flow.{Puts, Moves}
-use Rattle.upipe_run.specs.Prefix.{IsPrefixOf}
 
 pub moves_nothing : (left written : Option (List ℕ)) (complete : Bool) (count : ℕ) → count ≡ 0 → Moves left left written written complete count
 moves_nothing left written complete count none = record {
@@ -17,8 +17,8 @@ moves_nothing left written complete count none = record {
 }
 
 -- what was put stays a prefix, where nothing is put any more once something is missing
-prefix_more : (put taken more block : List ℕ) (had_failed : Bool) → IsPrefixOf put taken → (not had_failed ≡ true → put ≡ taken)
-    → IsPrefixOf more block → (had_failed ≡ true → more ≡ []) → IsPrefixOf (put ++ more) (taken ++ block)
+prefix_more : (put taken more block : List ℕ) (had_failed : Bool) → IsPrefix put taken → (not had_failed ≡ true → put ≡ taken)
+    → IsPrefix more block → (had_failed ≡ true → more ≡ []) → IsPrefix (put ++ more) (taken ++ block)
 prefix_more put taken more block false prefix whole next nothing =
     (next.0, ap (λ l. taken ++ l) next.1 ∙ ap (λ l. l ++ (more ++ next.0)) (sym (whole refl)) ∙ sym (append_assoc put more next.0))
 prefix_more put taken more block true prefix whole next nothing = (

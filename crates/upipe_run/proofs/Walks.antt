@@ -12,7 +12,7 @@ use Rattle.up_outside.specs.declared.asked.Entry.{Entry}
 use Rattle.up_outside.specs.declared.asked.Side.TheVariants.{Source, Sink}
 use Rattle.up_outside.specs.declared.asked.Mark.TheVariants.{Refused, Closed}
 use Rattle.up_outside.proofs.Told.{Then-map, always}
-use Rattle.upipe_run.specs.Flow.{is_broken}
+use Rattle.upipe_run.specs.Flow.{read_failed}
 use Rattle.upipe_run.specs.Verdicts.{verdict_by, sink_refused}
 use Rattle.upipe_run.specs.Walk.{Walks, IsCopied, IsBeyond, IsWithin}
 use Rattle.upipe_run.specs.declared.flow.End.{End}
@@ -114,8 +114,8 @@ module _ (from to : List ℕ) (limit : ℕ) (s0 s4 : DepotState) where
     pub walks_both : (end : End) (sink_failed shut : Bool)
         → (end ≡ ends.Whole → sink_failed ≡ false → shut ≡ true → Then (IsCopied from to limit) s0.held s4.held)
         → (end ≡ ends.TooLong → IfSome s0.held (IsBeyond from limit)) → (end ≡ ends.Whole → IfSome s0.held (IsWithin from limit))
-        → Then (Added (is_broken end) (sink_failed || not shut) shut) s0.asked s4.asked
-        → CountsWhere (is_broken end) s0.source_faults s4.source_faults → CountsWhere (sink_failed || not shut) s0.sink_faults s4.sink_faults
+        → Then (Added (read_failed end) (sink_failed || not shut) shut) s0.asked s4.asked
+        → CountsWhere (read_failed end) s0.source_faults s4.source_faults → CountsWhere (sink_failed || not shut) s0.sink_faults s4.sink_faults
         → Walks from to limit s0 s4 (verdict_by end sink_failed shut)
     walks_both ends.Whole false true copied beyond whole added sources sinks = record {
       copied = λ is. copied refl refl refl;

@@ -1,8 +1,10 @@
 -- What a run asked of its depot, and what became of it.
 use Rattle.std.specs.Prelude.{◌≡◌, ℕ, suc, ◌+◌, ◌<◌, ◌≤◌, List, [], ◌∷◌, ◌++◌, map, slice_get, Bool, true, false, not, ◌&&◌, Option, Some, IfSome}
 use Rattle.std.specs.List.{AllByRecursion}
+use Rattle.up_base.specs.Lists.{IsPrefix}
 use Rattle.up_model.specs.declared.form.SourceForm.{SourceForm}
 use Rattle.up_model.specs.declared.kind.Kind.TheVariants as kinds
+use Rattle.up_model.specs.declared.limits.TheConstants.{MAX_GRAPH}
 use Rattle.up_model.specs.declared.pipe.Pipe.{Pipe}
 use Rattle.up_outside.specs.Asked.{Ask, ask_of}
 use Rattle.up_outside.specs.Held.{Held}
@@ -13,15 +15,16 @@ use Rattle.up_outside.specs.declared.asked.Mark.TheVariants.{Refused, Open, Clos
 use Rattle.up_report.specs.declared.fault.Fault.TheVariants.{Usage, Graph, ReadGraph, Read, Write, WriteReport, BadFrame, TooLong}
 use Rattle.upipe_run.specs.OfGraph.{OfGraph, WithoutGraph}
 use Rattle.upipe_run.specs.Paths.{asks_of}
-use Rattle.upipe_run.specs.Prefix.{IsPrefixOf}
 use Rattle.upipe_run.specs.declared.ending.Ending.{Ending}
 use Rattle.upipe_run.specs.declared.ending.Ending.TheVariants.{Whole, Faulty, NoMemory}
 
+-- it was opened, and not closed yet
 abbrev pub is_open : Mark → Bool
 is_open Refused = false
 is_open Open = true
 is_open (Closed moved failed shut) = false
 
+-- the open was refused
 abbrev pub is_refused : Mark → Bool
 is_refused Refused = true
 is_refused Open = false
@@ -39,6 +42,7 @@ is_clean Refused = false
 is_clean Open = false
 is_clean (Closed moved failed shut) = not failed && shut
 
+-- how many bytes the closed object had moved; none where it isn't closed
 abbrev pub moved_by : Mark → ℕ
 moved_by Refused = 0
 moved_by Open = 0
@@ -124,14 +128,14 @@ module _ (path : List ℕ) (held : Option Held) where
   pub record AsksRun (ending : Ending) (before after : List Entry) : Type 0 where
     pub grown : List Entry
     pub told : after ≡ before ++ grown
-    pub prefix : IfGraph (λ pipes. IsPrefixOf (map ask_of grown) (asks_of path pipes))
+    pub prefix : IfGraph (λ pipes. IsPrefix (map ask_of grown) (asks_of path pipes))
     -- where the text has no graph, the graph file alone
     pub alone : IfSome held (λ m.
-        WithoutGraph m path (IsPrefixOf (map ask_of grown) ((path, Source) ∷ [])))
+        WithoutGraph m path (IsPrefix (map ask_of grown) ((path, Source) ∷ [])))
     pub stops : Stops ending grown
     pub none_open : NoneOpen ending grown
     pub marks : MarksEnding ending grown
     -- of the graph file at most one byte more than the greatest is read
-    pub text : (e : Entry) → slice_get grown 0 ≡ Some e → moved_by e.mark ≤ 1048577
+    pub text : (e : Entry) → slice_get grown 0 ≡ Some e → moved_by e.mark ≤ MAX_GRAPH + 1
     pub sources : IfGraph (λ pipes.
         (at : ℕ) (e : Entry) → slice_get grown (suc at) ≡ Some e → ReadsWithin pipes e)

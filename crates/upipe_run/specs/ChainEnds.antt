@@ -3,6 +3,7 @@ use Rattle.std.specs.Prelude.{◌≡◌, ◌-◌, ◌<◌, ◌≤◌, List, leng
 use Rattle.up_model.specs.declared.form.SinkForm.TheVariants as sink_forms
 use Rattle.up_model.specs.declared.form.SourceForm.TheVariants as source_forms
 use Rattle.up_model.specs.declared.kind.Kind.TheVariants.{Source, Sink}
+use Rattle.up_model.specs.declared.limits.TheConstants.{MAX_LIMIT}
 use Rattle.up_model.specs.declared.pipe.Pipe.{Pipe}
 use Rattle.upipe_run.specs.declared.chain.ChainEnds.{ChainEnds}
 
@@ -15,4 +16,4 @@ pub record HasEnds (pipes : List Pipe) (ends : ChainEnds) : Type 0 where
   pub last : slice_get pipes (length pipes - 1) ≡ Some sink
   pub writes : sink.kind ≡ Sink ends.to.now sink_forms.Raw
   pub block : 0 < ends.block
-  pub limit : ends.limit ≤ 1099511627776
+  pub limit : ends.limit ≤ MAX_LIMIT

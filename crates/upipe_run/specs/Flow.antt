@@ -1,11 +1,11 @@
 -- What goes from a source to a sink.
 use Rattle.std.specs.Prelude.{◌≡◌, ℕ, ◌+◌, List, [], length, take, Bool, true, false, not, ◌&&◌, ◌<◌, ◌≤◌, Option, Result, Ok, Err, IfOk}
 use Rattle.std.specs.Io.KnownBytes.{Consumes, Appends, IsAtEnd}
+use Rattle.up_base.specs.Lists.{IsPrefix}
 use Rattle.up_base.specs.declared.refusal.NoMemory.{NoMemory}
 use Rattle.up_outside.specs.Counts.{CountsWhere}
 use Rattle.up_outside.specs.States.{SourceState, SinkState}
 use Rattle.up_outside.specs.Told.{Then}
-use Rattle.upipe_run.specs.Prefix.{IsPrefixOf}
 use Rattle.upipe_run.specs.declared.fill.Filled.{Filled}
 use Rattle.upipe_run.specs.declared.fill.Stop.{Stop}
 use Rattle.upipe_run.specs.declared.fill.Stop.TheVariants as stops
@@ -19,6 +19,7 @@ pub record Moved (old new : SourceState) (bytes : List ℕ) (count : ℕ) : Type
   pub sum : Then (λ before after. after ≡ before + count) old.moved new.moved
   pub place : new.place ≡ old.place
 
+-- it stopped at a fault
 abbrev pub is_fault : Stop → Bool
 is_fault stops.Full = false
 is_fault stops.End = false
@@ -40,7 +41,7 @@ pub record Puts (old new : Option (List ℕ)) (piece : List ℕ)
     (had_failed has_failed : Bool) : Type 0 where
   pub put : List ℕ
   pub appended : Appends old new put
-  pub prefix : IsPrefixOf put piece
+  pub prefix : IsPrefix put piece
   pub whole : has_failed ≡ false → (had_failed ≡ false) × (put ≡ piece)
   pub nothing : had_failed ≡ true → put ≡ []
 
@@ -51,10 +52,11 @@ pub record Moves (old_left new_left old_written new_written : Option (List ℕ))
   pub put : List ℕ
   pub consumed : Consumes old_left new_left taken
   pub appended : Appends old_written new_written put
-  pub prefix : IsPrefixOf put taken
+  pub prefix : IsPrefix put taken
   pub whole : complete ≡ true → put ≡ taken
   pub total : length taken ≡ count
 
+-- the source was read to its end
 abbrev pub is_whole : End → Bool
 is_whole Whole = true
 is_whole ReadFault = false
@@ -65,13 +67,15 @@ abbrev pub is_complete : Result FlowEnd NoMemory → Bool
 is_complete (Ok flow) = is_whole flow.source && not flow.sink_failed
 is_complete (Err refused) = false
 
-abbrev pub is_broken : End → Bool
-is_broken Whole = false
-is_broken ReadFault = true
-is_broken TooLong = false
+-- a read of the source failed
+abbrev pub read_failed : End → Bool
+read_failed Whole = false
+read_failed ReadFault = true
+read_failed TooLong = false
 
+-- the flow ended at a read that failed
 abbrev pub source_failed : Result FlowEnd NoMemory → Bool
-source_failed (Ok flow) = is_broken flow.source
+source_failed (Ok flow) = read_failed flow.source
 source_failed (Err refused) = false
 
 -- what the flow moved, and what its end says of the bytes that the source had

@@ -8,7 +8,6 @@ pub mod GraphText
 pub mod Laws
 pub mod OfGraph
 pub mod Paths
-pub mod Prefix
 pub mod Runs
 pub mod Seen
 pub mod Tells

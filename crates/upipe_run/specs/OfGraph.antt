@@ -23,5 +23,5 @@ OfGraph before path IsSo =
 -- this is so where the text at the path has no graph
 abbrev pub WithoutGraph : Held → List ℕ → Type 0 → Type 0
 WithoutGraph before path IsSo =
-    (text : List ℕ) (refusal : GraphRefused) → get before path ≡ Some text → graph_of text ≡ Err refusal
-    → IsSo
+    (text : List ℕ) (refusal : GraphRefused) → get before path ≡ Some text
+    → graph_of text ≡ Err refusal → IsSo

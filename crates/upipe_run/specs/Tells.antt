@@ -1,19 +1,19 @@
 -- What is printed of an ending.
 use Rattle.std.specs.Prelude.{◌≡◌, ◌≢◌, ◌⊎◌, ℕ, List}
 use Rattle.std.specs.Io.KnownBytes.{Appends}
+use Rattle.up_base.specs.Lists.{IsPrefix}
 use Rattle.up_outside.specs.Counts.{Rose}
 use Rattle.up_outside.specs.States.{SinkState}
 use Rattle.up_report.specs.Faults.{status_of}
 use Rattle.up_report.specs.Lines.{fault_bytes, no_memory_bytes}
 use Rattle.up_report.specs.declared.fault.Fault.{Fault}
-use Rattle.upipe_run.specs.Prefix.{IsPrefixOf}
 use Rattle.upipe_run.specs.declared.ending.Ending.{Ending}
 use Rattle.upipe_run.specs.declared.ending.Ending.TheVariants.{Whole, Faulty, NoMemory}
 
 module _ (old new : SinkState) where
   -- what was written grew by a prefix of the line
   abbrev pub AppendsPrefix : List ℕ → Type 0
-  AppendsPrefix line = (put : List ℕ) × IsPrefixOf put line × Appends old.written new.written put
+  AppendsPrefix line = (put : List ℕ) × IsPrefix put line × Appends old.written new.written put
 
   -- the line was written, or a prefix of it before the sink failed
   abbrev pub WritesLine : List ℕ → Type 0

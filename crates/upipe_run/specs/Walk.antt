@@ -32,6 +32,7 @@ pub record IsCopied (from to : List ℕ) (limit : ℕ) (before after : Held) : T
   pub within : length bytes ≤ limit
   pub at_sink : get after to ≡ Some bytes
 
+-- the source had the fault
 abbrev pub blames_source : Verdict → Bool
 blames_source Whole = false
 blames_source ReadFault = true
@@ -63,10 +64,12 @@ module _ (from to : List ℕ) (limit : ℕ) where
       (grown ≡ []) ⊎ ((grown ≡ entry from Source (Closed 0 false true) ∷ [])
       ⊎ ((sink_failed : Bool) × (shut : Bool) × BothClosed false sink_failed shut grown))
 
+  -- entries were added by how the walk ended
   abbrev pub AsksWalk : Verdict → List Entry → List Entry → Type 0
   AsksWalk verdict before after =
       (grown : List Entry) × (after ≡ before ++ grown) × WalkEntries verdict grown
 
+  -- what became of the paths, of what was asked and of the counts
   pub record Walks (old new : DepotState) (verdict : Verdict) : Type 0 where
     pub copied : verdict ≡ Whole → Then (IsCopied from to limit) old.held new.held
     pub too_long : verdict ≡ TooLong → IfSome old.held (IsBeyond from limit)

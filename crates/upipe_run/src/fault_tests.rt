@@ -207,15 +207,3 @@ fn a_sixth_read_that_fails_leaves_the_first_block(rt: HostRuntime) -> Result<(),
     assert_eq!(rt; depot.bytes("o"), bytes.get(..4_096));
     Ok(())
 }
-
-#[test]
-fn a_first_write_that_fails_leaves_an_empty_sink(rt: HostRuntime) -> Result<(), Fail> {
-    let alloc = rt.alloc();
-    let mut depot = case_depot(alloc, b"abc")?;
-    depot.fail(DepotCall::Write, "o", 1)?;
-    let (status, err, _) = told_run(&rt, alloc, &mut depot)?;
-    assert_eq!(rt; status, 5);
-    assert_eq!(rt; err.bytes(), b"upipe: write fault: pipe out\n".as_slice());
-    assert_eq!(rt; depot.bytes("o"), Some(b"".as_slice()));
-    Ok(())
-}

@@ -1,4 +1,5 @@
-ghost use Rattle.std.specs.Prelude.{◌≡◌, ◌<◌, ◌≤◌, ◌^◌, length, IfOk};
+ghost use Rattle.std.specs.Prelude.{◌≡◌, ◌<◌, ◌≤◌, length, IfOk};
+ghost use Rattle.up_model.specs.declared.limits.TheConstants.{MAX_LIMIT};
 ghost use Rattle.up_outside.specs.Counts.{CountsWhere};
 ghost use Rattle.upipe_run.specs.Flow.{Carries, IsSameSink, source_failed};
 
@@ -35,7 +36,7 @@ pub fn carry<S: Source, K: Sink>(
     limit: u64,
 ) -> Result<FlowEnd, NoMemory>
     requires room { 0 < length room.old }
-    requires limit { limit ≤ 2 ^ 40 }
+    requires limit { limit ≤ MAX_LIMIT }
     ensures carries { Carries (S.state source.old) (S.state source.new)
         (K.state sink.old) (K.state sink.new) limit result }
     ensures read_faults { CountsWhere (source_failed result)

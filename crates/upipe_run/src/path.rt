@@ -1,5 +1,6 @@
 // The bytes at one path are carried to another.
-ghost use Rattle.std.specs.Prelude.{◌<◌, ◌≤◌, ◌^◌};
+ghost use Rattle.std.specs.Prelude.{◌<◌, ◌≤◌};
+ghost use Rattle.up_model.specs.declared.limits.TheConstants.{MAX_LIMIT};
 ghost use Rattle.upipe_run.specs.Walk.{Walks};
 
 use crate::flow::carry;
@@ -19,7 +20,7 @@ pub fn carry_path<D: Depot>(
     depot: &mut D,
 ) -> Verdict
     requires block { 0 < block }
-    requires limit { limit ≤ 2 ^ 40 }
+    requires limit { limit ≤ MAX_LIMIT }
     ensures { Walks from.now to.now limit (D.state depot.old) (D.state depot.new) result }
 {
     let Ok(mut room) = vec![in alloc; 0u8; block as usize] else {

@@ -47,8 +47,8 @@ fn run_file<D: Depot>(alloc: Global, path: &str, depot: &mut D) -> Ending
     ending_of(&graph, limit, verdict)
 }
 
-/// Runs the graph file at the path `graph` over the depot on this thread, and answers the status. A status other than 0
-/// writes its one line to `err`. Nothing is printed to `out` yet, and no pool is kept, so `pool` is false.
+/// Runs the graph file at the path `graph` over the depot on this thread, and answers the status. Nothing is printed to
+/// `out` yet, and no pool is kept, so `pool` is false.
 pub fn run_single<D: Depot, K: Sink, E: Sink>(
     alloc: Global,
     graph: &str,

@@ -14,13 +14,16 @@ use Rattle.up_outside.specs.declared.memory.failures.Failure.{Failure}
 abbrev pub failure : DepotCall → List ℕ → ℕ → Failure
 failure call path number = record { call = call; path = path; number = number }
 
+-- the number of a call's kind
+abbrev pub place_of : DepotCall → ℕ
+place_of calls.OpenSource = 0
+place_of calls.Read = 1
+place_of calls.OpenSink = 2
+place_of calls.Write = 3
+place_of calls.CloseSink = 4
+
 abbrev pub same_call : DepotCall → DepotCall → Bool
-same_call calls.OpenSource calls.OpenSource = true
-same_call calls.Read calls.Read = true
-same_call calls.OpenSink calls.OpenSink = true
-same_call calls.Write calls.Write = true
-same_call calls.CloseSink calls.CloseSink = true
-same_call _ _ = false
+same_call one other = place_of one == place_of other
 
 -- whether the row is of such a call on the path
 abbrev pub is_such : DepotCall → List ℕ → Failure → Bool

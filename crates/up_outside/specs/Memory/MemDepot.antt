@@ -1,9 +1,9 @@
 -- What a depot in memory tells, which of its calls fail, and what they leave.
-use Rattle.std.specs.Prelude.{◌≡◌, ℕ, ◌+◌, List, [], Some, Bool, true, false, ◌||◌, not, is_some, Result, Ok, Err}
+use Rattle.std.specs.Prelude.{◌≡◌, ◌⊎◌, ℕ, ◌+◌, List, [], Some, Bool, true, false, ◌||◌, not, is_some, Result, Ok, Err}
 use Rattle.std.specs.FinMap.{get, insert}
 use Rattle.up_base.specs.declared.refusal.Refusal.{Refusal}
 use Rattle.up_base.specs.declared.refusal.Refusal.TheVariants as refusals
-use Rattle.up_outside.specs.Held.{Held, KeepsOthers}
+use Rattle.up_outside.specs.Held.{Held}
 use Rattle.up_outside.specs.Memory.Failures.{calls_made, is_due, numbers_of}
 use Rattle.up_outside.specs.Memory.MemSink.{sink_calls, sink_most}
 use Rattle.up_outside.specs.Memory.MemSource.{source_calls, source_most}
@@ -64,11 +64,12 @@ FailsWhere must (Err refusals.Failed) = must ≡ true
 FailsWhere must (Err refusals.NoMemory) = Unit {0}
 
 -- what the open of a sink leaves at its path: no bytes, and where it failed what was there; where no memory was found
--- nothing is said of this path alone
+-- one of the two
 abbrev pub Empties : {T : Type 0} → Result T Refusal → List ℕ → Held → Held → Type 0
 Empties (Ok x) path before after = after ≡ insert before path []
 Empties (Err refusals.Failed) path before after = after ≡ before
-Empties (Err refusals.NoMemory) path before after = KeepsOthers path before after
+Empties (Err refusals.NoMemory) path before after =
+    (after ≡ before) ⊎ (after ≡ insert before path [])
 
 -- of a source that was opened: a read gives at most so many bytes, and those in the table fail
 pub record ReadsByRules (d : MemDepot) (path : List ℕ) (s : MemSource) : Type 0 where

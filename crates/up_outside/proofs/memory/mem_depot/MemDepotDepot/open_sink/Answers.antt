@@ -1,5 +1,5 @@
-use Rattle.std.proofs.Common.{rules}
-use Rattle.up_outside.specs.Held.{KeepsOthers}
+use Rattle.std.proofs.Common.{◌≡◌, ◌⊎◌, [], inr, rules}
+use Rattle.std.specs.FinMap.{insert}
 use Rattle.up_outside.proofs.Rooms.{keeps_others, rooms-insert, rooms-ask, is_held}
 use Rattle.up_outside.proofs.memory.mem_depot.MemDepotDepot.open_sink.Goals as goal
 
@@ -8,8 +8,8 @@ returns-in_err-ask-2-clause-held c = rw c.in_ok-set.ensures.set (keeps_others _ 
 
 pub returns-in_err-ask-2-clause-empties : goal.returns-in_err-ask-2-clause-empties
 returns-in_err-ask-2-clause-empties c =
-    let others : KeepsOthers c.args.path.now c.args.self.now.held c.set.new.self = rw c.in_ok-set.ensures.set (keeps_others _ _ _) in
-    search (rules, others)
+    let one_of_two : (c.set.new.self ≡ c.args.self.now.held) ⊎ (c.set.new.self ≡ insert c.args.self.now.held c.args.path.now []) = inr (rw c.new.ensures at c.in_ok-set.ensures.set) in
+    search (rules, one_of_two)
 
 pub returns-clause-held : goal.returns-clause-held
 returns-clause-held c = rw c.in_ok-set.ensures.set (keeps_others _ _ _)
