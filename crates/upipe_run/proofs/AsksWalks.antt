@@ -1,5 +1,5 @@
 -- What a run asked whose graph is a chain, by how its walk ended.
-use Rattle.std.proofs.Common.{◌≡◌, ℕ, zero, suc, ◌+◌, ◌≤◌, List, [], ◌∷◌, ◌++◌, map, Bool, true, false, Option, Some, IfSome, slice_get, inl, inr, refl, sym, ap, subst, ◌∙◌, arith}
+use Rattle.std.proofs.Common.{◌≡◌, ℕ, zero, suc, ◌+◌, ◌≤◌, List, [], ◌∷◌, ◌++◌, map, Bool, true, false, not, ◌&&◌, Option, Some, IfSome, slice_get, inl, inr, refl, sym, ap, subst, ◌∙◌, arith}
 use Rattle.up_base.specs.Lists.{IsPrefix}
 use Rattle.up_outside.specs.Asked.{ask_of, entry}
 use Rattle.up_outside.specs.Held.{Held}
@@ -45,6 +45,11 @@ one_within pipes x within (suc at) e found = none_within pipes at e found
 two_within : (pipes : List Pipe) (x y : Entry) → ReadsWithin pipes x → ReadsWithin pipes y → (at : ℕ) (e : Entry) → slice_get (x ∷ y ∷ []) at ≡ Some e → ReadsWithin pipes e
 two_within pipes x y within next zero e found = subst (ReadsWithin pipes) (same_entry x e found) within
 two_within pipes x y within next (suc at) e found = one_within pipes y next at e found
+
+-- a sink that failed at its close alone wasn't shut
+spared : (shut : Bool) → not (not shut && shut) ≡ true
+spared true = refl
+spared false = refl
 
 module _ (path from to : List ℕ) (limit n : ℕ) (held : Option Held) (pipes : List Pipe) (short : n ≤ 1048577)
     (same : asks_of path pipes ≡ (path, Source) ∷ (from, Source) ∷ (to, Sink) ∷ [])
@@ -181,8 +186,8 @@ module _ (path from to : List ℕ) (limit n : ℕ) (held : Option Held) (pipes :
         prefix = prefix grown ((from, Source) ∷ (to, Sink) ∷ [], refl);
         alone = alone grown;
         stops = tt;
-        none_open = tt;
-        marks = (refl, tt);
+        none_open = (refl, tt);
+        marks = ((refl, tt), (refl, tt));
         text = first_moved text added 1048577 short;
         sources = sources added (none_within pipes);
       }
@@ -195,13 +200,13 @@ module _ (path from to : List ℕ) (limit n : ℕ) (held : Option Held) (pipes :
         prefix = prefix grown ((to, Sink) ∷ [], refl);
         alone = alone grown;
         stops = tt;
-        none_open = tt;
-        marks = (refl, (refl, tt));
+        none_open = (refl, (refl, tt));
+        marks = ((refl, (refl, tt)), (refl, (refl, tt)));
         text = first_moved text added 1048577 short;
         sources = sources added (one_within pipes (source 0 false) (source_within (Closed 0 false true) (omega arith)));
       }
-  asks_no_memory rest told (inr (inr (sink_failed, shut, both))) =
-      let added = source both.read false ∷ sink both.written sink_failed shut ∷ [] in
+  asks_no_memory rest told (inr (inr (shut, both))) =
+      let added = source both.read false ∷ sink both.written (not shut) shut ∷ [] in
       let grown = text ∷ added in
       record {
         grown = grown;
@@ -209,8 +214,8 @@ module _ (path from to : List ℕ) (limit n : ℕ) (held : Option Held) (pipes :
         prefix = prefix grown ([], refl);
         alone = alone grown;
         stops = tt;
-        none_open = tt;
-        marks = (refl, (refl, (refl, tt)));
+        none_open = (refl, (refl, (refl, tt)));
+        marks = ((refl, (refl, (refl, tt))), (refl, (refl, (spared shut, tt))));
         text = first_moved text added 1048577 short;
-        sources = sources added (both_within both.read false both.written sink_failed shut both.within);
+        sources = sources added (both_within both.read false both.written (not shut) shut both.within);
       }

@@ -1,5 +1,5 @@
 -- A walk whose source and sink were opened, by its flow and its close.
-use Rattle.std.proofs.Common.{◌≡◌, ℕ, ◌++◌, List, IfOk, true, false, not, ◌||◌, nat_lt, is_ok, Some, IfSome, Result, Ok, Err, OnOk, refl}
+use Rattle.std.proofs.Common.{◌≡◌, ℕ, ◌++◌, List, true, false, not, ◌||◌, nat_lt, is_ok, Some, IfSome, Result, Ok, Err, OnOk, refl}
 use Rattle.std.specs.FinMap.{insert}
 use Rattle.up_base.specs.declared.refusal.Failed.{Failed}
 use Rattle.up_base.specs.declared.refusal.NoMemory.{NoMemory}
@@ -9,7 +9,7 @@ use Rattle.up_outside.specs.DepotCalls.{IsSourceOf, IsEmptySink}
 use Rattle.up_outside.specs.Held.{KeepsOthers}
 use Rattle.up_outside.specs.States.{DepotState, SourceState, SinkState}
 use Rattle.up_outside.specs.Told.{Then}
-use Rattle.upipe_run.specs.Flow.{Carries, source_failed, read_failed, is_complete}
+use Rattle.upipe_run.specs.Flow.{Carries, source_failed, write_failed, read_failed, is_complete}
 use Rattle.upipe_run.specs.Verdicts.{verdict_of}
 use Rattle.upipe_run.specs.Walk.{Walks}
 use Rattle.upipe_run.specs.declared.flow.End.TheVariants as ends
@@ -31,14 +31,15 @@ module _ (from to : List ℕ) (limit : ℕ) (s0 s1 s2 s3 s4 : DepotState) (opene
     (same1 : s1.held ≡ s0.held) (others2 : Then (KeepsOthers to) s1.held s2.held) (same3 : s3.held ≡ s2.held) (others4 : Then (KeepsOthers to) s3.held s4.held)
     (closed : Result (Unit {0}) Failed) (stored : OnOk closed (IfSome s3.held (λ held. IfSome sink.written (λ bytes. s4.held ≡ Some (insert held to bytes))))) where
   pub walks_flow : (result : Result FlowEnd NoMemory) (carries : Carries opened source opened_sink sink limit result)
-      → CountsWhere (source_failed result) opened.faults source.faults → IfOk result (λ flow. CountsWhere flow.sink_failed opened_sink.faults sink.faults)
+      → CountsWhere (source_failed result) opened.faults source.faults → CountsWhere (write_failed result) opened_sink.faults sink.faults
       → Then (λ before after. (m : ℕ) × (after ≡ before ++ closed_pair from to carries.count m (source_ending source) (sink_ending sink closed))) s0.asked s4.asked
       → CountsWhere (nat_lt 0 source.faults) s0.source_faults s4.source_faults → CountsWhere (nat_lt 0 sink.faults || not (is_ok closed)) s0.sink_faults s4.sink_faults
       → Walks from to limit s0 s4 (verdict_of result (is_ok closed))
   walks_flow (Err refused) carries read write pair sources sinks =
       let unfailed = same_flag false opened.faults source.faults opens.fresh read in
+      let spared = same_flag false opened_sink.faults sink.faults empty.fresh write in
       walks_out_of_memory from to limit s0 s4 carries.count carries.within (others_kept s0.held s1.held s2.held s3.held s4.held to same1 others2 same3 others4)
-      (nat_lt 0 sink.faults || not (is_ok closed)) (is_ok closed) (rw unfailed at pair) (rw unfailed at sources) sinks.later
+      (is_ok closed) (rw (unfailed, spared) at pair) (rw unfailed at sources) sinks.later
   walks_flow (Ok flow) carries read write pair sources sinks =
       let source_flag = same_flag (read_failed flow.source) opened.faults source.faults opens.fresh read in
       let sink_flag = same_flag flow.sink_failed opened_sink.faults sink.faults empty.fresh write in

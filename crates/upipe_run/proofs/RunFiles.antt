@@ -17,7 +17,7 @@ use Rattle.up_outside.specs.declared.asked.Mark.TheVariants.{Refused, Closed}
 use Rattle.up_outside.specs.declared.asked.Side.TheVariants.{Source}
 use Rattle.up_outside.proofs.Told.{Then-map, always}
 use Rattle.up_report.specs.declared.fault.Fault.TheVariants as faults
-use Rattle.upipe_run.specs.Asks.{AsksRun, IfGraph, Stops, NoneOpen, MarksEnding, ReadsWithin, moved_by}
+use Rattle.upipe_run.specs.Asks.{AsksRun, IfGraph, Stops, MarksEnding, ReadsWithin, moved_by}
 use Rattle.upipe_run.specs.Endings.{IsOfText, refused_ending}
 use Rattle.upipe_run.specs.GraphText.{IsStartAt, AsksText}
 use Rattle.upipe_run.specs.Runs.{HasCauses, KeepsOtherPaths}
@@ -98,7 +98,7 @@ module _ (path : List ℕ) (s0 s1 : DepotState) where
     alone = without_graph s0.held path _ ((path, Source) ∷ [], refl);
     stops = tt;
     none_open = tt;
-    marks = tt;
+    marks = (tt, tt);
     text = no_text;
     sources = any_graph path s0.held _ none_at;
   }
@@ -116,9 +116,9 @@ module _ (path : List ℕ) (s0 s1 : DepotState) where
 
   -- it was read, and its graph file's entry is the only one
   read_alone : (ending : Ending) (n : ℕ) → n ≤ 1048577 → (before after : List Entry) → after ≡ before ++ entry path Source (Closed n false true) ∷ []
-      → Stops path s0.held ending (entry path Source (Closed n false true) ∷ []) → NoneOpen ending (entry path Source (Closed n false true) ∷ [])
+      → Stops path s0.held ending (entry path Source (Closed n false true) ∷ [])
       → MarksEnding ending (entry path Source (Closed n false true) ∷ []) → AsksRun path s0.held ending before after
-  read_alone ending n fits before after told stops none_open marks =
+  read_alone ending n fits before after told stops marks =
       let e = entry path Source (Closed n false true) in
       record {
         grown = e ∷ [];
@@ -126,7 +126,7 @@ module _ (path : List ℕ) (s0 s1 : DepotState) where
         prefix = any_graph path s0.held _ (λ pipes. (_, refl));
         alone = without_graph s0.held path _ ([], refl);
         stops = stops;
-        none_open = none_open;
+        none_open = (refl, tt);
         marks = marks;
         text = first_moved e [] 1048577 fits;
         sources = any_graph path s0.held _ (λ pipes. none_later e pipes);
@@ -140,7 +140,7 @@ module _ (path : List ℕ) (s0 s1 : DepotState) where
       bytes = always s0.held;
       no_graph = without_graph s0.held path _ tt;
       asked = Then-map (λ _. Unit {0}) (AsksText path 1048577 (Ok read)) (AsksRun path s0.held endings.NoMemory) s0.asked s1.asked
-          (λ x y u asks. read_alone endings.NoMemory asks.0 asks.1 x y asks.2 tt tt (refl, tt)) (always s0.asked) asked;
+          (λ x y u asks. read_alone endings.NoMemory asks.0 asks.1 x y asks.2 tt ((refl, tt), (refl, tt))) (always s0.asked) asked;
       counts = record { sources = counts.sources; sinks = counts.sinks.later; sinks_rose = λ is. absurd (cc); sinks_stay = λ is. absurd (cc) };
     }
 
@@ -152,7 +152,7 @@ module _ (path : List ℕ) (s0 s1 : DepotState) where
       bytes = no_graph_told s0.held path text refusal start refused;
       no_graph = without_graph s0.held path _ tt;
       asked = Then-map (λ _. Unit {0}) (AsksText path 1048577 (Ok read)) (AsksRun path s0.held (endings.Faulty (faults.Graph refusal))) s0.asked s1.asked
-          (λ x y u asks. read_alone (endings.Faulty (faults.Graph refusal)) asks.0 asks.1 x y asks.2 (refl, tt) (refl, tt) (refl, tt)) (always s0.asked) asked;
+          (λ x y u asks. read_alone (endings.Faulty (faults.Graph refusal)) asks.0 asks.1 x y asks.2 (refl, tt) (refl, tt)) (always s0.asked) asked;
       counts = record { sources = counts.sources; sinks = counts.sinks.later; sinks_rose = λ is. absurd (cc); sinks_stay = λ is. absurd (cc) };
     }
 

@@ -96,15 +96,15 @@ module _ (from to : List ℕ) (limit : ℕ) (s0 s4 : DepotState) where
         (m : ℕ) × (after ≡ before ++ entry from Source (Closed n failed true) ∷ entry to Sink (Closed m sink_failed shut) ∷ [])
 
     -- no memory was found
-    pub walks_out_of_memory : (sink_failed shut : Bool) → Then (Added false sink_failed shut) s0.asked s4.asked → CountsWhere false s0.source_faults s4.source_faults
+    pub walks_out_of_memory : (shut : Bool) → Then (Added false (not shut) shut) s0.asked s4.asked → CountsWhere false s0.source_faults s4.source_faults
         → s0.sink_faults ≤ s4.sink_faults → Walks from to limit s0 s4 NoMemory
-    walks_out_of_memory sink_failed shut added sources sinks = record {
+    walks_out_of_memory shut added sources sinks = record {
       copied = λ is. absurd (cc);
       too_long = λ is. absurd (cc);
       sink_last = λ is. absurd (cc);
       others = others;
-      asked = Then-map (λ _. Unit {0}) (Added false sink_failed shut) _ s0.asked s4.asked
-          (λ x y u grown. (_, grown.1, inr (inr (sink_failed, shut, record { read = n; within = within; written = grown.0; is = refl })))) (always s0.asked) added;
+      asked = Then-map (λ _. Unit {0}) (Added false (not shut) shut) _ s0.asked s4.asked
+          (λ x y u grown. (_, grown.1, inr (inr (shut, record { read = n; within = within; written = grown.0; is = refl })))) (always s0.asked) added;
       sources = sources;
       sinks = sinks;
       sinks_rose = λ is. absurd (cc);

@@ -48,6 +48,12 @@ moved_by Refused = 0
 moved_by Open = 0
 moved_by (Closed moved failed shut) = moved
 
+-- where it was closed in good order, nothing had failed
+abbrev pub is_spared : Mark → Bool
+is_spared Refused = true
+is_spared Open = true
+is_spared (Closed moved failed shut) = not (failed && shut)
+
 -- the marks of all entries pass the test
 abbrev pub AllMarks : (Mark → Bool) → Bool → List Entry → Type 0
 AllMarks test answer entries = AllByRecursion (λ e. test e.mark ≡ answer) entries
@@ -90,13 +96,7 @@ MarksEnding (Faulty WriteReport) grown = ⊥
 MarksEnding (Faulty (BadFrame pipe offset)) grown = ⊥
 MarksEnding (Faulty (TooLong pipe limit)) grown =
     CleanBefore 2 grown × AllMarks is_refused false grown
-MarksEnding NoMemory grown = AllMarks is_refused false grown
-
--- no entry stays open, unless memory ran out
-abbrev pub NoneOpen : Ending → List Entry → Type 0
-NoneOpen Whole grown = AllMarks is_open false grown
-NoneOpen (Faulty fault) grown = AllMarks is_open false grown
-NoneOpen NoMemory grown = Unit {0}
+MarksEnding NoMemory grown = AllMarks is_refused false grown × AllMarks is_spared true grown
 
 -- of a source at most one byte more than its limit is read
 abbrev pub ReadsWithin : List Pipe → Entry → Type 0
@@ -133,7 +133,7 @@ module _ (path : List ℕ) (held : Option Held) where
     pub alone : IfSome held (λ m.
         WithoutGraph m path (IsPrefix (map ask_of grown) ((path, Source) ∷ [])))
     pub stops : Stops ending grown
-    pub none_open : NoneOpen ending grown
+    pub none_open : AllMarks is_open false grown
     pub marks : MarksEnding ending grown
     -- of the graph file at most one byte more than the greatest is read
     pub text : (e : Entry) → slice_get grown 0 ≡ Some e → moved_by e.mark ≤ MAX_GRAPH + 1

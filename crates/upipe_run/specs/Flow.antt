@@ -78,6 +78,11 @@ abbrev pub source_failed : Result FlowEnd NoMemory → Bool
 source_failed (Ok flow) = read_failed flow.source
 source_failed (Err refused) = false
 
+-- a write to the sink failed
+abbrev pub write_failed : Result FlowEnd NoMemory → Bool
+write_failed (Ok flow) = flow.sink_failed
+write_failed (Err refused) = false
+
 -- what the flow moved, and what its end says of the bytes that the source had
 pub record Carries (old_source new_source : SourceState) (old_sink new_sink : SinkState) (limit : ℕ)
     (result : Result FlowEnd NoMemory) : Type 0 where

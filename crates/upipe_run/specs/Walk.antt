@@ -1,5 +1,5 @@
 -- What the walk from one path to another did.
-use Rattle.std.specs.Prelude.{◌≡◌, ◌⊎◌, ℕ, ◌+◌, ◌<◌, ◌≤◌, List, [], ◌∷◌, ◌++◌, length, Bool, true, false, Some, IfSome}
+use Rattle.std.specs.Prelude.{◌≡◌, ◌⊎◌, ℕ, ◌+◌, ◌<◌, ◌≤◌, List, [], ◌∷◌, ◌++◌, length, Bool, true, false, not, Some, IfSome}
 use Rattle.std.specs.FinMap.{get}
 use Rattle.up_outside.specs.Asked.{entry}
 use Rattle.up_outside.specs.Counts.{Rose, CountsWhere}
@@ -62,7 +62,7 @@ module _ (from to : List ℕ) (limit : ℕ) where
       (sink_failed : Bool) × (shut : Bool) × BothClosed false sink_failed shut grown
   WalkEntries NoMemory grown =
       (grown ≡ []) ⊎ ((grown ≡ entry from Source (Closed 0 false true) ∷ [])
-      ⊎ ((sink_failed : Bool) × (shut : Bool) × BothClosed false sink_failed shut grown))
+      ⊎ ((shut : Bool) × BothClosed false (not shut) shut grown))
 
   -- entries were added by how the walk ended
   abbrev pub AsksWalk : Verdict → List Entry → List Entry → Type 0

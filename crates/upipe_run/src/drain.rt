@@ -1,4 +1,4 @@
-ghost use Rattle.std.specs.Prelude.{◌≡◌, ◌≤◌, ℕ, length, take, OnOk, OnErr};
+ghost use Rattle.std.specs.Prelude.{◌≡◌, ◌≤◌, ℕ, false, length, take, OnOk, OnErr};
 ghost use Rattle.std.specs.Io.KnownBytes.{Appends};
 ghost use Rattle.up_outside.specs.Counts.{CountsWhere, is_failed};
 ghost use Rattle.upipe_run.specs.Flow.{IsSameSink, Puts};
@@ -30,6 +30,8 @@ pub fn put<K: Sink>(sink: &mut K, piece: &[u8], failed: &mut bool) -> Result<(),
     ensures faults { OnOk result ((before : ℕ)
         → CountsWhere failed.old before (K.state sink.old).faults
         → CountsWhere failed.new before (K.state sink.new).faults) }
+    ensures spared { OnErr result ((failed.old ≡ false)
+        × ((K.state sink.new).faults ≡ (K.state sink.old).faults)) }
     ensures later { (K.state sink.old).faults ≤ (K.state sink.new).faults }
     ensures same { IsSameSink (K.state sink.old) (K.state sink.new) }
 {

@@ -1,7 +1,7 @@
-ghost use Rattle.std.specs.Prelude.{◌≡◌, ◌<◌, ◌≤◌, length, IfOk};
+ghost use Rattle.std.specs.Prelude.{◌≡◌, ◌<◌, ◌≤◌, length};
 ghost use Rattle.up_model.specs.declared.limits.TheConstants.{MAX_LIMIT};
 ghost use Rattle.up_outside.specs.Counts.{CountsWhere};
-ghost use Rattle.upipe_run.specs.Flow.{Carries, IsSameSink, source_failed};
+ghost use Rattle.upipe_run.specs.Flow.{Carries, IsSameSink, source_failed, write_failed};
 
 use crate::drain::put;
 use crate::fill::{Filled, Stop, fill};
@@ -41,8 +41,8 @@ pub fn carry<S: Source, K: Sink>(
         (K.state sink.old) (K.state sink.new) limit result }
     ensures read_faults { CountsWhere (source_failed result)
         (S.state source.old).faults (S.state source.new).faults }
-    ensures write_faults { IfOk result (λ flow. CountsWhere flow.sink_failed
-        (K.state sink.old).faults (K.state sink.new).faults) }
+    ensures write_faults { CountsWhere (write_failed result)
+        (K.state sink.old).faults (K.state sink.new).faults }
     ensures same_source { (S.state source.new).place ≡ (S.state source.old).place }
     ensures same_sink { IsSameSink (K.state sink.old) (K.state sink.new) }
 {
