@@ -4,7 +4,7 @@ use Rattle.up_model.specs.declared.catch_set.CatchSet.{CatchSet}
 use Rattle.up_model.specs.declared.event_kind.EventKind.TheVariants.{Drop, Cut, Sync, Lost}
 use Rattle.up_probe.specs.Chain.{catching_depth}
 use Rattle.up_model.specs.Tallies.{nothing as no_sums}
-use Rattle.up_probe.specs.Event.{kind_of, with_event}
+use Rattle.up_probe.specs.Event.{event_kind, with_event}
 use Rattle.up_probe.specs.declared.event.Event.TheVariants as events
 
 abbrev nothing : CatchSet
@@ -23,7 +23,7 @@ root = refl
 pub root_alone : catching_depth Lost [] ≡ 0
 root_alone = refl
 
-pub gained_is_of_kind_sync : kind_of events.SyncGained ≡ Sync
+pub gained_is_of_kind_sync : event_kind events.SyncGained ≡ Sync
 gained_is_of_kind_sync = refl
 
 pub drops_add_up : (with_event (events.Drop 3) (with_event (events.Drop 4) no_sums)).dropped ≡ 7

@@ -9,11 +9,11 @@ use Rattle.up_probe.specs.declared.event.Event.{Event}
 use Rattle.up_probe.specs.declared.event.Event.TheVariants.{Drop, Cut, SyncGained, SyncLost}
 
 -- the kind of an event
-abbrev pub kind_of : Event → EventKind
-kind_of (Drop packets) = kinds.Drop
-kind_of (Cut bytes) = kinds.Cut
-kind_of SyncGained = kinds.Sync
-kind_of SyncLost = kinds.Lost
+abbrev pub event_kind : Event → EventKind
+event_kind (Drop packets) = kinds.Drop
+event_kind (Cut bytes) = kinds.Cut
+event_kind SyncGained = kinds.Sync
+event_kind SyncLost = kinds.Lost
 
 -- the set has the kind
 abbrev pub catches : EventKind → CatchSet → Bool

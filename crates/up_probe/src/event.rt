@@ -16,11 +16,11 @@ pub enum Event {
 }
 
 impl Event {
-    ghost use Rattle.up_probe.specs.Event.{kind_of};
+    ghost use Rattle.up_probe.specs.Event.{event_kind};
 
     /// The kind that a probe's set names.
     pub(crate) fn kind(self) -> EventKind
-        ensures { result ≡ kind_of self }
+        ensures { result ≡ event_kind self }
     {
         match self {
             Event::Drop { .. } => EventKind::Drop,

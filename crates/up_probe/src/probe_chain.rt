@@ -1,7 +1,7 @@
 ghost use Rattle.std.specs.Prelude.{◌≡◌, ℕ, ◌≤◌, length, IfOk};
 ghost use Rattle.up_probe.specs.Chain.{IsAdded, catching_depth, tally_at};
 ghost use Rattle.up_model.specs.Tallies.{nothing};
-ghost use Rattle.up_probe.specs.Event.{kind_of};
+ghost use Rattle.up_probe.specs.Event.{event_kind};
 
 use crate::catching::catching_probe;
 use crate::sums::add;
@@ -45,7 +45,7 @@ impl ProbeChain {
 
     /// Throws an event from the pipe. The nearest probe whose set has the event's kind catches it, else the root.
     pub fn throw(&mut self, e: Event) -> Caught
-        ensures depth { result.depth ≡ catching_depth (kind_of e) self.old.sets }
+        ensures depth { result.depth ≡ catching_depth (event_kind e) self.old.sets }
         ensures sets { self.new.sets ≡ self.old.sets }
         ensures added { IsAdded e result.depth self.old self.new }
     {

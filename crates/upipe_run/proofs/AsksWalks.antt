@@ -90,6 +90,7 @@ module _ (path from to : List ℕ) (limit n : ℕ) (held : Option Held) (pipes :
       record {
         grown = grown;
         told = told ∙ ap (λ l. before ++ text ∷ l) both.is;
+        first = ([], refl);
         prefix = prefix grown ([], refl);
         alone = alone grown;
         stops = stops grown (refl, (refl, (refl, tt)));
@@ -106,6 +107,7 @@ module _ (path from to : List ℕ) (limit n : ℕ) (held : Option Held) (pipes :
       record {
         grown = grown;
         told = told ∙ ap (λ l. before ++ text ∷ l) refused;
+        first = ([], refl);
         prefix = prefix grown ((to, Sink) ∷ [], refl);
         alone = alone grown;
         stops = stops grown (refl, (refl, refl));
@@ -120,6 +122,7 @@ module _ (path from to : List ℕ) (limit n : ℕ) (held : Option Held) (pipes :
       record {
         grown = grown;
         told = told ∙ ap (λ l. before ++ text ∷ l) both.is;
+        first = ([], refl);
         prefix = prefix grown ([], refl);
         alone = alone grown;
         stops = stops grown (refl, (refl, (refl, tt)));
@@ -136,6 +139,7 @@ module _ (path from to : List ℕ) (limit n : ℕ) (held : Option Held) (pipes :
       record {
         grown = grown;
         told = told ∙ ap (λ l. before ++ text ∷ l) refused;
+        first = ([], refl);
         prefix = prefix grown ([], refl);
         alone = alone grown;
         stops = stops grown (refl, (refl, (refl, refl)));
@@ -150,6 +154,7 @@ module _ (path from to : List ℕ) (limit n : ℕ) (held : Option Held) (pipes :
       record {
         grown = grown;
         told = told ∙ ap (λ l. before ++ text ∷ l) both.is;
+        first = ([], refl);
         prefix = prefix grown ([], refl);
         alone = alone grown;
         stops = stops grown (refl, (refl, (refl, tt)));
@@ -167,6 +172,7 @@ module _ (path from to : List ℕ) (limit n : ℕ) (held : Option Held) (pipes :
       record {
         grown = grown;
         told = told ∙ ap (λ l. before ++ text ∷ l) both.is;
+        first = ([], refl);
         prefix = prefix grown ([], refl);
         alone = alone grown;
         stops = stops grown (refl, (refl, (refl, tt)));
@@ -183,6 +189,7 @@ module _ (path from to : List ℕ) (limit n : ℕ) (held : Option Held) (pipes :
       record {
         grown = grown;
         told = told ∙ ap (λ l. before ++ text ∷ l) nothing;
+        first = ([], refl);
         prefix = prefix grown ((from, Source) ∷ (to, Sink) ∷ [], refl);
         alone = alone grown;
         stops = tt;
@@ -197,6 +204,7 @@ module _ (path from to : List ℕ) (limit n : ℕ) (held : Option Held) (pipes :
       record {
         grown = grown;
         told = told ∙ ap (λ l. before ++ text ∷ l) one;
+        first = ([], refl);
         prefix = prefix grown ((to, Sink) ∷ [], refl);
         alone = alone grown;
         stops = tt;
@@ -211,6 +219,7 @@ module _ (path from to : List ℕ) (limit n : ℕ) (held : Option Held) (pipes :
       record {
         grown = grown;
         told = told ∙ ap (λ l. before ++ text ∷ l) both.is;
+        first = ([], refl);
         prefix = prefix grown ([], refl);
         alone = alone grown;
         stops = tt;

@@ -56,6 +56,7 @@ module _ (path : List ℕ) (s0 s1 : DepotState) where
       record {
         grown = e ∷ [];
         told = told;
+        first = ([], refl);
         prefix = any_graph path s0.held _ (λ pipes. (_, refl));
         alone = without_graph s0.held path _ ([], refl);
         stops = (refl, refl);
@@ -69,6 +70,7 @@ module _ (path : List ℕ) (s0 s1 : DepotState) where
       record {
         grown = e ∷ [];
         told = told;
+        first = ([], refl);
         prefix = any_graph path s0.held _ (λ pipes. (_, refl));
         alone = without_graph s0.held path _ ([], refl);
         stops = (refl, tt);
@@ -94,6 +96,7 @@ module _ (path : List ℕ) (s0 s1 : DepotState) where
   asks_no_text before after told = record {
     grown = [];
     told = told ∙ sym (append-nil before);
+    first = ((path, Source) ∷ [], refl);
     prefix = any_graph path s0.held _ (λ pipes. (_, refl));
     alone = without_graph s0.held path _ ((path, Source) ∷ [], refl);
     stops = tt;
@@ -123,6 +126,7 @@ module _ (path : List ℕ) (s0 s1 : DepotState) where
       record {
         grown = e ∷ [];
         told = told;
+        first = ([], refl);
         prefix = any_graph path s0.held _ (λ pipes. (_, refl));
         alone = without_graph s0.held path _ ([], refl);
         stops = stops;

@@ -1,5 +1,5 @@
 -- What a run asked of its depot, and what became of it.
-use Rattle.std.specs.Prelude.{◌≡◌, ℕ, suc, ◌+◌, ◌<◌, ◌≤◌, List, [], ◌∷◌, ◌++◌, map, slice_get, Bool, true, false, not, ◌&&◌, Option, Some, IfSome}
+use Rattle.std.specs.Prelude.{◌≡◌, ℕ, suc, ◌+◌, ◌<◌, ◌≤◌, List, [], ◌∷◌, ◌++◌, map, take, slice_get, Bool, true, false, not, ◌&&◌, Option, Some, IfSome}
 use Rattle.std.specs.List.{AllByRecursion}
 use Rattle.up_base.specs.Lists.{IsPrefix}
 use Rattle.up_model.specs.declared.form.SourceForm.{SourceForm}
@@ -128,6 +128,8 @@ module _ (path : List ℕ) (held : Option Held) where
   pub record AsksRun (ending : Ending) (before after : List Entry) : Type 0 where
     pub grown : List Entry
     pub told : after ≡ before ++ grown
+    -- the graph file before all else
+    pub first : IsPrefix (take 1 (map ask_of grown)) ((path, Source) ∷ [])
     pub prefix : IfGraph (λ pipes. IsPrefix (map ask_of grown) (asks_of path pipes))
     -- where the text has no graph, the graph file alone
     pub alone : IfSome held (λ m.
