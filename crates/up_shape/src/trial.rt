@@ -1,8 +1,10 @@
 // Modules, tried with packets of vectors: a test of a kind is a table of trials and one loop.
-ghost use Rattle.std.specs.Prelude.{◌≡◌, ◌++◌, [], ◌∷◌, All, map, IfOk, OnOk, IsTrue};
+ghost use Rattle.std.specs.Prelude.{◌≡◌, ◌++◌, ◌==◌, ◌&&◌, nat_le, [], ◌∷◌, All, map, length, IfOk, OnOk, IsTrue};
+ghost use Rattle.std.specs.FinMap as attrs;
 ghost use Rattle.up_model.specs.Packet.{IsLegal, plain};
 ghost use Rattle.up_shape.specs.Trials.{kind_with, plain_flow, all_bytes, copies, IsWorkOf};
 ghost use Rattle.up_shape.specs.VecPackets.{plain_of};
+ghost use Rattle.up_shape.specs.declared.trial.Untried.TheVariants.{NoMemory as OutOfMemory};
 
 use crate::{Command, ControlRefused, LocalPacket, Module, Outbox, VecPacket, VecStore, run_flow};
 use std::alloc::Global;
@@ -41,6 +43,8 @@ pub enum Untried {
 }
 
 impl From<NoMemory> for Untried {
+    ghost from_gives = { λ _ untried. untried ≡ OutOfMemory };
+
     fn from(_no_memory: NoMemory) -> Untried {
         Untried::NoMemory
     }
@@ -100,7 +104,9 @@ pub fn tried<M: Module<VecPacket>>(
 
 /// Whether the packet has no attribute and at most `MAX_PACKET` bytes, so that it is legal.
 pub fn is_bare<P: LocalPacket>(p: &P) -> bool
-    ensures { IsTrue result → IsLegal (P.plain p.now) }
+    ensures bare { result ≡ (attrs.len (P.plain p.now).attrs == 0
+        && nat_le (length (P.plain p.now).bytes) MAX_PACKET) }
+    ensures legal { IsTrue result → IsLegal (P.plain p.now) }
 {
     p.attr_count() == 0 && p.size() <= MAX_PACKET
 }

@@ -21,7 +21,8 @@ impl TrialPacket {
     }
 }
 
-/// A store of such packets. `dup` is refused once it was called so many times.
+/// A store of such packets. `dup` is refused once it was called so many times, and at once with a store that was split
+/// off.
 #[derive(Drop)]
 pub struct TrialStore {
     store: VecStore,
@@ -30,7 +31,9 @@ pub struct TrialStore {
 
 impl TrialStore {
     /// A store from which nothing was drawn, and the number of calls of `dup` that aren't refused.
-    pub fn new(alloc: Global, dups: usize) -> TrialStore {
+    pub fn new(alloc: Global, dups: usize) -> TrialStore
+        ensures { drawn_within result ≡ 0 }
+    {
         TrialStore {
             store: VecStore::new(alloc),
             dups,
@@ -46,7 +49,7 @@ impl Stash for TrialStore {
     fn split(&mut self) -> TrialStore {
         TrialStore {
             store: self.store.split(),
-            dups: self.dups,
+            dups: 0,
         }
     }
 
