@@ -15,8 +15,8 @@ path_on sides.Sink (Sink path form) = Some path
 path_on sides.Sink kind = None
 
 -- that of the pipe at a place
-abbrev pub path_at : Side → List Pipe → ℕ → Option (List ℕ)
-path_at side pipes place = option_and_then (λ pipe. path_on side pipe.kind) (slice_get pipes place)
+abbrev pub pipe_path : Side → List Pipe → ℕ → Option (List ℕ)
+pipe_path side pipes place = option_and_then (λ pipe. path_on side pipe.kind) (slice_get pipes place)
 
 -- what is asked on a side, in file order
 abbrev pub asks_on : Side → List Pipe → List Ask

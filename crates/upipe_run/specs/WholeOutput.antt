@@ -11,7 +11,7 @@ use Rattle.up_model.specs.declared.pipe.Pipe.{Pipe}
 use Rattle.up_outside.specs.Held.{Held}
 use Rattle.up_outside.specs.declared.asked.Side.TheVariants as sides
 use Rattle.upipe_run.specs.OfGraph.{IsOfGraph}
-use Rattle.upipe_run.specs.Paths.{path_at}
+use Rattle.upipe_run.specs.Paths.{pipe_path}
 
 -- the flow of a source, which counts with all of the bytes at its path
 abbrev pub flow_by : Held → Kind → Flow
@@ -49,8 +49,8 @@ pub record IsWholeOutput (before after : Held) (pipes : List Pipe) : Type 0 wher
 -- the path of the last pipe, a sink, has what the path of the first, a source, had
 abbrev pub Copies : Held → Held → List Pipe → Type 0
 Copies before after pipes =
-    (from to : List ℕ) → path_at sides.Source pipes 0 ≡ Some from
-    → path_at sides.Sink pipes (length pipes - 1) ≡ Some to
+    (from to : List ℕ) → pipe_path sides.Source pipes 0 ≡ Some from
+    → pipe_path sides.Sink pipes (length pipes - 1) ≡ Some to
     → get after to ≡ get before from
 
 -- the text at the path has a graph, whose output is whole; a graph of today is one chain, so its bytes are copied
