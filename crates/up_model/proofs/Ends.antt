@@ -5,6 +5,7 @@ use Rattle.up_model.proofs.Lawful.{IsLawful, KeepsFlows, no_options_kept, whole_
 use Rattle.up_model.specs.Ends.{end_meaning}
 use Rattle.up_model.specs.Packet.{Flow, IsLegal}
 use Rattle.up_model.specs.Tallies.{IsAtMost, of_taken}
+use Rattle.up_model.specs.declared.fan_out.FanOut.{FanOut}
 use Rattle.up_model.specs.declared.form.SinkForm.{SinkForm}
 use Rattle.up_model.specs.declared.form.SourceForm.{SourceForm}
 use Rattle.up_model.specs.declared.kind.Kind.TheVariants.{Source, Sink}
@@ -19,8 +20,8 @@ sums_grow taken more = record {
   lost = omega arith;
 }
 
-ends_keep : (IsWithin : Type 0) (written : Flow → List ℕ) → KeepsFlows (end_meaning IsWithin written)
-ends_keep IsWithin written = record {
+ends_keep : (IsWithin : Type 0) (fan_out : FanOut) (written : Flow → List ℕ) → KeepsFlows (end_meaning IsWithin fan_out written)
+ends_keep IsWithin fan_out written = record {
   settles_nothing = refl;
   settles_no_sums = refl;
   owes_nothing = refl;
@@ -36,14 +37,14 @@ ends_keep IsWithin written = record {
 
 pub source_is_lawful : (path : List ℕ) (form : SourceForm) (limit : ℕ) → IsLawful (Source path form limit)
 source_is_lawful path form limit = record {
-  flows = λ within. ends_keep _ _;
+  flows = λ within. ends_keep _ _ _;
   options = no_options_kept (Source path form limit) (λ option. refl);
   shares = whole_shares (Source path form limit) (λ select flow. refl) (λ numbers. refl);
 }
 
 pub sink_is_lawful : (path : List ℕ) (form : SinkForm) → IsLawful (Sink path form)
 sink_is_lawful path form = record {
-  flows = λ within. ends_keep _ _;
+  flows = λ within. ends_keep _ _ _;
   options = no_options_kept (Sink path form) (λ option. refl);
   shares = whole_shares (Sink path form) (λ select flow. refl) (λ numbers. refl);
 }

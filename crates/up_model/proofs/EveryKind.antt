@@ -6,26 +6,27 @@ use Rattle.up_model.proofs.Lawful.{IsLawful, by_packets, no_options_kept, whole_
 use Rattle.up_model.proofs.Skip.{skip_is_lawful}
 use Rattle.up_model.specs.KindMeaning.{no_options}
 use Rattle.up_model.specs.Packetwise.{passes_on, drops}
+use Rattle.up_model.specs.declared.fan_out.FanOut.TheVariants as fans
 use Rattle.up_model.specs.declared.kind.Kind.{Kind}
 use Rattle.up_model.specs.declared.kind.Kind.TheVariants.{Source, Sink, Idem, Null, Dup, Skip, DelAttr}
 
 idem_is_lawful : IsLawful Idem
 idem_is_lawful = record {
-  flows = λ within. by_packets (Unit {0}) passes_on no_options (λ packet legal. legal);
+  flows = λ within. by_packets (Unit {0}) passes_on no_options fans.One (λ packet legal. legal);
   options = no_options_kept Idem (λ option. refl);
   shares = whole_shares Idem (λ select flow. refl) (λ numbers. refl);
 }
 
 null_is_lawful : IsLawful Null
 null_is_lawful = record {
-  flows = λ within. by_packets (Unit {0}) drops no_options (λ packet legal. tt);
+  flows = λ within. by_packets (Unit {0}) drops no_options fans.None (λ packet legal. tt);
   options = no_options_kept Null (λ option. refl);
   shares = whole_shares Null (λ select flow. refl) (λ numbers. refl);
 }
 
 dup_is_lawful : IsLawful Dup
 dup_is_lawful = record {
-  flows = λ within. by_packets (Unit {0}) passes_on no_options (λ packet legal. legal);
+  flows = λ within. by_packets (Unit {0}) passes_on no_options fans.All (λ packet legal. legal);
   options = no_options_kept Dup (λ option. refl);
   shares = whole_shares Dup (λ select flow. refl) (λ numbers. refl);
 }

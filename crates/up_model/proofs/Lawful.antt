@@ -10,6 +10,7 @@ use Rattle.up_model.specs.Packet.{Flow, IsLegal}
 use Rattle.up_model.specs.Packetwise.{Step, packetwise, passed}
 use Rattle.up_model.specs.Tallies.{IsAtMost, nothing}
 use Rattle.up_model.specs.Work.{Counts}
+use Rattle.up_model.specs.declared.fan_out.FanOut.{FanOut}
 use Rattle.up_model.specs.declared.kind.Kind.{Kind}
 use Rattle.up_model.specs.declared.limits.TheConstants.{MAX_PID}
 use Rattle.up_model.specs.declared.opt.Opt.{Opt}
@@ -46,8 +47,9 @@ pub record IsLawful (kind : Kind) : Type 0 where
   pub shares : KeepsShares kind
 
 -- a kind that looks at each packet by itself
-pub by_packets : (IsWithin : Type 0) (step : Step) (setting : Opt → Option Setting) → KeepsLegal step → KeepsFlows (packetwise IsWithin step setting)
-by_packets IsWithin step setting keeps = record {
+pub by_packets : (IsWithin : Type 0) (step : Step) (setting : Opt → Option Setting) (fan_out : FanOut) → KeepsLegal step
+    → KeepsFlows (packetwise IsWithin step setting fan_out)
+by_packets IsWithin step setting fan_out keeps = record {
   settles_nothing = refl;
   settles_no_sums = refl;
   owes_nothing = refl;

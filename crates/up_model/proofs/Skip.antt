@@ -12,6 +12,7 @@ use Rattle.up_model.specs.OptionValues.{IsSet, value_of}
 use Rattle.up_model.specs.Packet.{PlainPacket, IsLegal}
 use Rattle.up_model.specs.Packetwise.{IfPasses}
 use Rattle.up_model.specs.Skip.{skip_step, skip_setting}
+use Rattle.up_model.specs.declared.fan_out.FanOut.TheVariants as fans
 use Rattle.up_model.specs.declared.kind.Kind.TheVariants.{Skip}
 use Rattle.up_model.specs.declared.limits.TheConstants.{MAX_PACKET}
 use Rattle.up_model.specs.declared.opt.Opt.{Opt}
@@ -85,7 +86,7 @@ skip_cuts count packet = by_test (nat_le count (length packet.bytes)) refl
 
 pub skip_is_lawful : (count : ℕ) → IsLawful (Skip count)
 skip_is_lawful count = record {
-  flows = λ within. by_packets _ (skip_step count) (skip_setting count) (skip_step_is_legal count);
+  flows = λ within. by_packets _ (skip_step count) (skip_setting count) fans.One (skip_step_is_legal count);
   options = options_are_kept count;
   shares = whole_shares (Skip count) (λ select flow. refl) (λ numbers. refl);
 }

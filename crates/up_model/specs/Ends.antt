@@ -1,15 +1,19 @@
 -- The kinds at the ends of a graph, `source` and `sink`. As a kind neither puts anything out for what it takes: what a source
 -- puts out is what it carried.
-use Rattle.std.specs.Prelude.{◌≡◌, ℕ, ◌≤◌, Bool, true, ◌&&◌, not, nat_le, ◌==◌, [], List, length}
+use Rattle.std.specs.Prelude.{◌≡◌, ℕ, ◌≤◌, Bool, true, false, ◌&&◌, not, nat_le, ◌==◌, [], List, length, Option, Some, None}
 use Rattle.std.specs.List.{list_any}
-use Rattle.std.specs.Str.{is_utf8}
+use Rattle.std.specs.Str.{bytes_eq, is_utf8}
 use Rattle.up_model.specs.KindMeaning.{KindMeaning, no_options, whole_share, no_stand_in, writes_nothing}
 use Rattle.up_model.specs.Packet.{Flow, joined}
 use Rattle.up_model.specs.Tallies.{of_taken}
+use Rattle.up_model.specs.declared.fan_out.FanOut.{FanOut}
+use Rattle.up_model.specs.declared.fan_out.FanOut.TheVariants as fans
 use Rattle.up_model.specs.declared.form.SinkForm.{SinkForm}
 use Rattle.up_model.specs.declared.form.SinkForm.TheVariants as sink_forms
 use Rattle.up_model.specs.declared.form.SourceForm.{SourceForm}
 use Rattle.up_model.specs.declared.form.SourceForm.TheVariants as source_forms
+use Rattle.up_model.specs.declared.kind.Kind.{Kind}
+use Rattle.up_model.specs.declared.kind.Kind.TheVariants.{Source, Sink}
 use Rattle.up_model.specs.declared.limits.TheConstants.{MAX_BLOCK, MAX_LIMIT, MAX_PATH}
 
 -- a text of 1 to 4,096 bytes, none of them zero
@@ -32,15 +36,16 @@ IsSinkForm sink_forms.Raw = Unit {0}
 abbrev pub written_by : SinkForm → Flow → List ℕ
 written_by sink_forms.Raw taken = joined taken
 
--- a kind at an end of a graph, by what its fields keep and the bytes that it writes
-abbrev pub end_meaning : Type 0 → (Flow → List ℕ) → KindMeaning
-end_meaning IsWithin written = record {
+-- a kind at an end of a graph, by what its fields keep, whom it feeds, and the bytes that it writes
+abbrev pub end_meaning : Type 0 → FanOut → (Flow → List ℕ) → KindMeaning
+end_meaning IsWithin fan_out written = record {
   IsWithin = IsWithin;
   output = λ taken. [];
   settled = λ taken. [];
   tally = of_taken;
   settled_tally = of_taken;
   setting = no_options;
+  fan_out = fan_out;
   share = whole_share;
   stand_in = no_stand_in;
   written = written;
@@ -48,7 +53,26 @@ end_meaning IsWithin written = record {
 
 abbrev pub source_meaning : List ℕ → SourceForm → ℕ → KindMeaning
 source_meaning path form limit =
-    end_meaning (IsPath path × IsSourceForm form × (limit ≤ MAX_LIMIT)) writes_nothing
+    end_meaning (IsPath path × IsSourceForm form × (limit ≤ MAX_LIMIT)) fans.One writes_nothing
 
 abbrev pub sink_meaning : List ℕ → SinkForm → KindMeaning
-sink_meaning path form = end_meaning (IsPath path × IsSinkForm form) (written_by form)
+sink_meaning path form = end_meaning (IsPath path × IsSinkForm form) fans.None (written_by form)
+
+abbrev pub is_source : Kind → Bool
+is_source (Source path form limit) = true
+is_source kind = false
+
+-- the path that a source reads or a sink writes
+abbrev pub path_of : Kind → Option (List ℕ)
+path_of (Source path form limit) = Some path
+path_of (Sink path form) = Some path
+path_of kind = None
+
+abbrev pub is_one_path : Option (List ℕ) → Option (List ℕ) → Bool
+is_one_path (Some path) (Some other) = bytes_eq path other
+is_one_path (Some path) None = false
+is_one_path None other = false
+
+-- the two have one path, which sources alone may share
+abbrev pub same_path : Kind → Kind → Bool
+same_path a b = not (is_source a && is_source b) && is_one_path (path_of a) (path_of b)

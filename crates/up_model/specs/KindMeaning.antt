@@ -1,6 +1,7 @@
 -- What the meaning of a kind of pipe consists of: one record a kind.
 use Rattle.std.specs.Prelude.{ℕ, ℤ, int_le, Bool, ◌&&◌, List, [], Option, None}
 use Rattle.up_model.specs.Packet.{Flow}
+use Rattle.up_model.specs.declared.fan_out.FanOut.{FanOut}
 use Rattle.up_model.specs.declared.kind.Kind.{Kind}
 use Rattle.up_model.specs.declared.opt.Opt.{Opt}
 use Rattle.up_model.specs.declared.tally.Tally.{Tally}
@@ -26,6 +27,8 @@ pub record KindMeaning : Type 1 where
   pub tally : Flow → Tally
   pub settled_tally : Flow → Tally
   pub setting : Opt → Option Setting
+  -- how many consumers its output can feed
+  pub fan_out : FanOut
   -- what of its output a consumer with this `select` takes
   pub share : Option ℕ → Flow → Flow
   -- the kind that its module has in place of its own, by the numbers that its consumers select

@@ -7,6 +7,8 @@ use Rattle.up_model.specs.Packet.{Flow}
 use Rattle.up_model.specs.Packetwise.{packetwise, passes_on, drops}
 use Rattle.up_model.specs.Skip.{skip_meaning}
 use Rattle.up_model.specs.Work.{Work}
+use Rattle.up_model.specs.declared.fan_out.FanOut.{FanOut}
+use Rattle.up_model.specs.declared.fan_out.FanOut.TheVariants as fans
 use Rattle.up_model.specs.declared.kind.Kind.{Kind}
 use Rattle.up_model.specs.declared.kind.Kind.TheVariants.{Source, Sink, Idem, Null, Dup, Skip, DelAttr}
 use Rattle.up_model.specs.declared.opt.Opt.{Opt}
@@ -14,9 +16,9 @@ use Rattle.up_model.specs.declared.opt.Opt.{Opt}
 abbrev pub meaning_of : Kind → KindMeaning
 meaning_of (Source path form limit) = source_meaning path form limit
 meaning_of (Sink path form) = sink_meaning path form
-meaning_of Idem = packetwise (Unit {0}) passes_on no_options
-meaning_of Null = packetwise (Unit {0}) drops no_options
-meaning_of Dup = packetwise (Unit {0}) passes_on no_options
+meaning_of Idem = packetwise (Unit {0}) passes_on no_options fans.One
+meaning_of Null = packetwise (Unit {0}) drops no_options fans.None
+meaning_of Dup = packetwise (Unit {0}) passes_on no_options fans.All
 meaning_of (Skip bytes) = skip_meaning bytes
 meaning_of (DelAttr attr) = delattr_meaning attr
 
@@ -52,6 +54,10 @@ set_by kind value (Some setting) = setting.set value
 -- the kind with the option set to a value within its bounds
 abbrev pub with_option : Kind → Opt → ℤ → Kind
 with_option kind option value = set_by kind value (setting_of kind option)
+
+-- how many consumers its output can feed
+abbrev pub fan_out_of : Kind → FanOut
+fan_out_of kind = (meaning_of kind).fan_out
 
 -- what of its output a consumer with this `select` takes
 abbrev pub share_of : Kind → Option ℕ → Flow → Flow

@@ -3,6 +3,7 @@ pub mod Chain
 pub mod Cutting
 pub mod DelAttr
 pub mod Ends
+pub mod Inputs
 pub mod KindMeaning
 pub mod Kinds
 pub mod Meaning
@@ -10,7 +11,9 @@ pub mod OptionValues
 pub mod Outcomes
 pub mod Packet
 pub mod Packetwise
+pub mod Plans
 pub mod Skip
 pub mod Tallies
 pub mod Value
+pub mod WellFormed
 pub mod Work

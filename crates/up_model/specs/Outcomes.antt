@@ -1,15 +1,18 @@
--- How a source ends, by the bytes that it could give, and what it then carried.
-use Rattle.std.specs.Prelude.{ℕ, List, [], length, take, nat_lt, if◌then◌else◌}
+-- How the pipes of a graph end, and what a source then carried.
+use Rattle.std.specs.Prelude.{ℕ, Bool, true, false, List, [], length, take, position, nat_lt, slice_get, Option, if◌then◌else◌}
+use Rattle.std.specs.Option.{option_map_or}
 use Rattle.up_model.specs.Cutting.{blocks, full_blocks}
+use Rattle.up_model.specs.Inputs.{source_of}
 use Rattle.up_model.specs.Packet.{Flow}
 use Rattle.up_model.specs.declared.kind.Kind.{Kind}
-use Rattle.up_model.specs.declared.kind.Kind.TheVariants.{Source}
+use Rattle.up_model.specs.declared.kind.Kind.TheVariants.{Source, Sink}
 use Rattle.up_model.specs.declared.form.SourceForm.{SourceForm}
 use Rattle.up_model.specs.declared.form.SourceForm.TheVariants.{Raw}
 use Rattle.up_model.specs.declared.outcome.Outcome.{Outcome}
-use Rattle.up_model.specs.declared.outcome.Outcome.TheVariants.{Whole, TooLong}
+use Rattle.up_model.specs.declared.outcome.Outcome.TheVariants.{Whole, ReadFault, WriteFault, TooLong, Broken, NoMemory}
+use Rattle.up_model.specs.declared.pipe.Pipe.{Pipe}
 
--- a source of the form: too long where there are more bytes than the limit, else whole
+-- a source of the form that could give these bytes, where no read fails: too long where there are more than the limit, else whole
 abbrev pub source_outcome : SourceForm → ℕ → List ℕ → Outcome
 source_outcome (Raw block) limit bytes =
     if nat_lt limit (length bytes) then TooLong limit else Whole
@@ -22,18 +25,69 @@ packets_of (Raw block) bytes = blocks block bytes
 abbrev pub whole_packets_of : SourceForm → List ℕ → Flow
 whole_packets_of (Raw block) bytes = full_blocks block bytes
 
--- all packets where the source is whole, else those within the limit
-abbrev pub source_flow : SourceForm → ℕ → List ℕ → Flow
-source_flow form limit bytes =
-    if nat_lt limit (length bytes) then whole_packets_of form (take limit bytes)
-    else packets_of form bytes
+-- what a source carried that ended so and was given these bytes; it has no other outcome once it is opened
+abbrev pub carried_by : Outcome → SourceForm → List ℕ → Flow
+carried_by Whole form bytes = packets_of form bytes
+carried_by ReadFault form bytes = whole_packets_of form bytes
+carried_by (TooLong limit) form bytes = whole_packets_of form (take limit bytes)
+carried_by WriteFault form bytes = []
+carried_by Broken form bytes = []
+carried_by NoMemory form bytes = []
 
 -- where no read fails: as a source of its form; a pipe that is no source is whole
 abbrev pub outcome_of : Kind → List ℕ → Outcome
 outcome_of (Source path form limit) bytes = source_outcome form limit bytes
 outcome_of kind bytes = Whole
 
--- what it then carried: a source the flow of its form; a pipe that is no source carries nothing of its own
+-- what it then carried; a pipe that is no source carries nothing of its own
 abbrev pub carried_flow : Kind → List ℕ → Flow
-carried_flow (Source path form limit) bytes = source_flow form limit bytes
+carried_flow (Source path form limit) bytes = carried_by (source_outcome form limit bytes) form bytes
 carried_flow kind bytes = []
+
+-- what it holds in all
+abbrev pub whole_flow : Kind → List ℕ → Flow
+whole_flow (Source path form limit) bytes = packets_of form bytes
+whole_flow kind bytes = []
+
+-- the outcome of a pipe without a cause of its own, by that of its source
+abbrev pub outcome_behind : Outcome → Outcome
+outcome_behind Whole = Whole
+outcome_behind ReadFault = Broken
+outcome_behind WriteFault = Broken
+outcome_behind (TooLong limit) = Broken
+outcome_behind Broken = Broken
+outcome_behind NoMemory = NoMemory
+
+-- the outcome of a pipe of the kind, once all paths are opened: by whether a call on its own path failed, by its bytes where it is a
+-- source, and by the outcome of its source where it is none
+abbrev pub pipe_outcome : Kind → Bool → List ℕ → Outcome → Outcome
+pipe_outcome (Source path form limit) true bytes source = ReadFault
+pipe_outcome (Source path form limit) false bytes source = source_outcome form limit bytes
+pipe_outcome (Sink path form) true bytes source = WriteFault
+pipe_outcome (Sink path form) false bytes source = outcome_behind source
+pipe_outcome kind failed bytes source = outcome_behind source
+
+module _ (pipes : List Pipe) (failed : ℕ → Bool) (bytes : ℕ → List ℕ) where
+  -- the outcome of the pipe at a place, by that of its source
+  abbrev pub outcome_from : Outcome → ℕ → Outcome
+  outcome_from source place = option_map_or
+      (λ pipe. pipe_outcome pipe.kind (failed place) (bytes place) source)
+      (slice_get pipes place) Whole
+
+  -- by whether a call on the path at each place failed, and by the bytes of each source
+  abbrev pub outcome_at : ℕ → Outcome
+  outcome_at place =
+      outcome_from (option_map_or (outcome_from Whole) (source_of pipes place) Whole) place
+
+-- a cause that is the pipe's own
+abbrev pub is_cause : Outcome → Bool
+is_cause Whole = false
+is_cause ReadFault = true
+is_cause WriteFault = true
+is_cause (TooLong limit) = true
+is_cause Broken = false
+is_cause NoMemory = false
+
+-- the place of the pipe that decides how the run is told: the first in file order with a cause of its own
+abbrev pub deciding : List Outcome → Option ℕ
+deciding outcomes = position is_cause outcomes

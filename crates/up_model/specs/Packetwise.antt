@@ -4,6 +4,7 @@ use Rattle.up_model.specs.KindMeaning.{KindMeaning, Setting, whole_share, no_sta
 use Rattle.up_model.specs.Packet.{PlainPacket, Flow, IsLegal}
 use Rattle.up_model.specs.Tallies.{nothing, plus, of_passed, of_dropped}
 use Rattle.up_model.specs.Work.{Work}
+use Rattle.up_model.specs.declared.fan_out.FanOut.{FanOut}
 use Rattle.up_model.specs.declared.opt.Opt.{Opt}
 use Rattle.up_model.specs.declared.verdict.Verdict.{Verdict}
 use Rattle.up_model.specs.declared.verdict.Verdict.TheVariants.{Passes, Drops}
@@ -34,15 +35,16 @@ summed step (packet ∷ taken) = plus (sums_of packet (step packet)) (summed ste
 abbrev pub work_by : Step → Flow → Work
 work_by step taken = record { flow = passed step taken; tally = summed step taken }
 
--- such a kind, by what its fields have to keep, its step and its options
-abbrev pub packetwise : Type 0 → Step → (Opt → Option Setting) → KindMeaning
-packetwise IsWithin step setting = record {
+-- such a kind, by what its fields have to keep, its step, its options, and whom it feeds
+abbrev pub packetwise : Type 0 → Step → (Opt → Option Setting) → FanOut → KindMeaning
+packetwise IsWithin step setting fan_out = record {
   IsWithin = IsWithin;
   output = passed step;
   settled = passed step;
   tally = summed step;
   settled_tally = summed step;
   setting = setting;
+  fan_out = fan_out;
   share = whole_share;
   stand_in = no_stand_in;
   written = writes_nothing;

@@ -3,6 +3,7 @@ use Rattle.std.specs.Prelude.{ℕ, ◌≤◌, pos, nat_le, length, drop, if◌th
 use Rattle.std.specs.Int.RustNames.{unsigned_abs}
 use Rattle.up_model.specs.KindMeaning.{KindMeaning, Setting}
 use Rattle.up_model.specs.Packetwise.{Step, packetwise}
+use Rattle.up_model.specs.declared.fan_out.FanOut.TheVariants as fans
 use Rattle.up_model.specs.declared.kind.Kind.TheVariants.{Skip}
 use Rattle.up_model.specs.declared.limits.TheConstants.{MAX_PACKET}
 use Rattle.up_model.specs.declared.opt.Opt.{Opt}
@@ -29,4 +30,4 @@ skip_setting count By = None
 skip_setting count Sync = None
 
 abbrev pub skip_meaning : ℕ → KindMeaning
-skip_meaning count = packetwise (count ≤ MAX_PACKET) (skip_step count) (skip_setting count)
+skip_meaning count = packetwise (count ≤ MAX_PACKET) (skip_step count) (skip_setting count) fans.One

@@ -1,6 +1,8 @@
 -- Sums of what a pipe did. Here they have no bound; where they are kept, each stops at 2^64 - 1.
-use Rattle.std.specs.Prelude.{ℕ, ◌+◌, ◌-◌, ◌^◌, ◌≤◌, min, max, length}
+use Rattle.std.specs.Prelude.{ℕ, ◌+◌, ◌-◌, ◌^◌, ◌≤◌, Bool, min, max, length, Option, Some, None, if◌then◌else◌}
 use Rattle.up_model.specs.Packet.{Flow}
+use Rattle.up_model.specs.declared.catch_set.CatchSet.{CatchSet}
+use Rattle.up_model.specs.declared.pipe.Pipe.{Pipe}
 use Rattle.up_model.specs.declared.tally.Tally.{Tally}
 
 -- nothing was done
@@ -56,6 +58,24 @@ stopped sums = record {
   gained = min sums.gained greatest_sum;
   lost = min sums.lost greatest_sum;
 }
+
+-- a sum whose kind of event is caught is 0
+abbrev pub unless_caught : Bool → ℕ → ℕ
+unless_caught caught sum = if caught then 0 else sum
+
+-- the sums that reach the root, past a probe that catches these kinds; what is taken and put is no event
+abbrev pub uncaught : CatchSet → Tally → Tally
+uncaught caught sums = record sums {
+  dropped = unless_caught caught.drop sums.dropped;
+  cut = unless_caught caught.cut sums.cut;
+  gained = unless_caught caught.sync sums.gained;
+  lost = unless_caught caught.lost sums.lost;
+}
+
+-- past the pipe's own probe
+abbrev pub uncaught_at : Option Pipe → Tally → Tally
+uncaught_at None sums = sums
+uncaught_at (Some pipe) sums = uncaught pipe.caught sums
 
 -- one packet was taken and put out, less so many bytes
 abbrev pub of_passed : ℕ → Tally

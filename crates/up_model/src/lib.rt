@@ -5,8 +5,10 @@
 mod attr_tests;
 mod catch_set;
 mod event_kind;
+mod fan_out;
 mod form;
 mod graph;
+mod graph_fault;
 mod kind;
 mod laws;
 mod limits;
@@ -25,8 +27,10 @@ mod verdict;
 
 pub use catch_set::CatchSet;
 pub use event_kind::EventKind;
+pub use fan_out::FanOut;
 pub use form::{SinkForm, SourceForm};
 pub use graph::Graph;
+pub use graph_fault::GraphFault;
 pub use kind::Kind;
 pub use laws::{
     blocks_rejoin, carried_is_legal, chain_copies, cut_is_the_rest, kept_sums_stop,
@@ -35,7 +39,7 @@ pub use laws::{
 };
 pub use limits::{
     DEFAULT_BLOCK, DEFAULT_QUEUE, MAX_ATTRS, MAX_BLOCK, MAX_GRAPH, MAX_LIMIT, MAX_PACKET, MAX_PATH,
-    MAX_PID, MAX_PIPES, MAX_VALUE,
+    MAX_PID, MAX_PIPES, MAX_QUEUE, MAX_VALUE, MAX_WORKERS,
 };
 pub use lists::{GivenBytes, PacketList, PipeList, PlaceList};
 pub use opt::Opt;

@@ -30,3 +30,9 @@ pub const DEFAULT_BLOCK: u32 = 4_096;
 
 /// The length of a lane whose graph names none, in items.
 pub const DEFAULT_QUEUE: u16 = 64;
+
+/// The longest lane, in items.
+pub const MAX_QUEUE: u16 = 4_096;
+
+/// The most different workers of a graph.
+pub const MAX_WORKERS: usize = 16;
