@@ -1,6 +1,7 @@
 -- A chain passes on what its source puts out.
 use Rattle.std.proofs.Common.{◌≡◌, ℕ, zero, suc, ◌+◌, ◌<◌, List, [], ◌∷◌, length, Option, Some, slice_get, refl, ap, ◌∙◌, add-one, arith}
 use Rattle.up_model.proofs.Packetwise.{passed-on}
+use Rattle.up_model.proofs.WellFormed.{there}
 use Rattle.up_model.specs.Chain.{IsChain, IsRawSource, IsRawSink}
 use Rattle.up_model.specs.Kinds.{module_kind, share_of, written_of}
 use Rattle.up_model.specs.Meaning.{wholly, done_by, selected, shared, taken_by, work_at, flow_within, flow_at, input_of, sink_bytes}
@@ -9,12 +10,6 @@ use Rattle.up_model.specs.declared.form.SinkForm.TheVariants.{Raw}
 use Rattle.up_model.specs.declared.kind.Kind.{Kind}
 use Rattle.up_model.specs.declared.kind.Kind.TheVariants.{Source, Sink, Idem}
 use Rattle.up_model.specs.declared.pipe.Pipe.{Pipe}
-
--- what stands at a place of the list
-there : (pipes : List Pipe) (place : ℕ) → place < length pipes → (pipe : Pipe) × (slice_get pipes place ≡ Some pipe)
-there [] place within = absurd (omega arith)
-there (p ∷ pipes) zero within = (p, refl)
-there (p ∷ pipes) (suc place) within = there pipes place (omega arith)
 
 source_puts : (place : ℕ) (kind : Kind) (numbers : List ℕ) (own taken : Flow) → IsRawSource kind
     → (done_by wholly place (module_kind numbers kind) own taken).flow ≡ own

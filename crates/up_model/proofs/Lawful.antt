@@ -15,7 +15,8 @@ use Rattle.up_model.specs.declared.kind.Kind.{Kind}
 use Rattle.up_model.specs.declared.limits.TheConstants.{MAX_PID}
 use Rattle.up_model.specs.declared.opt.Opt.{Opt}
 
--- nothing comes of nothing, what is settled stays, its sums grow and count the packets, and legal packets give legal ones
+-- nothing comes of nothing, what is settled stays, its sums grow and count the packets, legal packets give legal ones, and what is
+-- written stays
 pub record KeepsFlows (meaning : KindMeaning) : Type 0 where
   pub settles_nothing : meaning.settled [] ≡ []
   pub settles_no_sums : meaning.settled_tally [] ≡ nothing
@@ -28,6 +29,7 @@ pub record KeepsFlows (meaning : KindMeaning) : Type 0 where
   pub counts_settled : (taken : Flow) → Counts (record { flow = meaning.settled taken; tally = meaning.settled_tally taken }) taken
   pub counts_whole : (taken : Flow) → Counts (record { flow = meaning.output taken; tally = meaning.tally taken }) taken
   pub legal : (taken : Flow) → All IsLegal taken → All IsLegal (meaning.output taken)
+  pub writes_on : (taken more : Flow) → IsPrefix (meaning.written taken) (meaning.written (taken ++ more))
 
 -- an option lies within its own bounds, and a value within them is set in it alone
 pub record KeepsOptions (kind : Kind) : Type 0 where
@@ -61,6 +63,7 @@ by_packets IsWithin step setting fan_out keeps = record {
   counts_settled = work_counts step;
   counts_whole = work_counts step;
   legal = passed_is_legal step keeps;
+  writes_on = λ taken more. ([], refl);
 }
 
 -- nothing is no setting

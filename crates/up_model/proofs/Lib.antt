@@ -1,5 +1,7 @@
 pub mod AttrLists
+pub mod Blocks
 pub mod Carried
+pub mod CarriedFlows
 pub mod Chains
 pub mod Cuts
 pub mod CuttingExamples
@@ -10,7 +12,10 @@ pub mod EndsExamples
 pub mod EveryKind
 pub mod ExampleChain
 pub mod ExampleTree
+pub mod GraphFlows
+pub mod Joined
 pub mod Lawful
+pub mod LegalFlows
 pub mod Legality
 pub mod MeaningExamples
 pub mod NullExamples
@@ -22,6 +27,9 @@ pub mod Packetwise
 pub mod Skip
 pub mod SkipExamples
 pub mod SortedEntries
+pub mod Steps
 pub mod TallyExamples
 pub mod TreeExamples
 pub mod ValueExamples
+pub mod Ways
+pub mod WellFormed

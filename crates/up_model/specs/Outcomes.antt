@@ -39,15 +39,23 @@ abbrev pub outcome_of : Kind → List ℕ → Outcome
 outcome_of (Source path form limit) bytes = source_outcome form limit bytes
 outcome_of kind bytes = Whole
 
--- what it then carried; a pipe that is no source carries nothing of its own
-abbrev pub carried_flow : Kind → List ℕ → Flow
-carried_flow (Source path form limit) bytes = carried_by (source_outcome form limit bytes) form bytes
-carried_flow kind bytes = []
+-- what a pipe carried that ended so and was given these bytes; one that is no source carries nothing of its own
+abbrev pub carried_as : Outcome → Kind → List ℕ → Flow
+carried_as outcome (Source path form limit) bytes = carried_by outcome form bytes
+carried_as outcome kind bytes = []
 
--- what it holds in all
-abbrev pub whole_flow : Kind → List ℕ → Flow
-whole_flow (Source path form limit) bytes = packets_of form bytes
-whole_flow kind bytes = []
+-- where no read fails
+abbrev pub carried_flow : Kind → List ℕ → Flow
+carried_flow kind bytes = carried_as (outcome_of kind bytes) kind bytes
+
+-- by place: what each source carried, by how it ended and the bytes that it was given
+abbrev pub flows_by : List Pipe → (ℕ → Outcome) → (ℕ → List ℕ) → ℕ → Flow
+flows_by pipes ends bytes place =
+    option_map_or (λ pipe. carried_as (ends place) pipe.kind (bytes place)) (slice_get pipes place) []
+
+-- what each holds in all of its bytes
+abbrev pub whole_flows : List Pipe → (ℕ → List ℕ) → ℕ → Flow
+whole_flows pipes bytes = flows_by pipes (λ place. Whole) bytes
 
 -- the outcome of a pipe without a cause of its own, by that of its source
 abbrev pub outcome_behind : Outcome → Outcome

@@ -82,9 +82,9 @@ abbrev pub first_of : List (Option GraphFault) → Option GraphFault
 first_of [] = None
 first_of (fault ∷ faults) = option_or fault (first_of faults)
 
--- the first fault, in the order in which they are looked at, each at the first pipe that has it
-abbrev pub graph_fault : List Pipe → Option GraphFault
-graph_fault pipes = first_of (
+-- the faults, in the order in which they are looked at, each at the first pipe that has it
+abbrev pub graph_faults : List Pipe → List (Option GraphFault)
+graph_faults pipes =
     option_map SameName (first_place has_same_name pipes)
     ∷ option_map UnknownInput (first_place has_unknown_input pipes)
     ∷ option_map Cycle (first_place has_cycle pipes)
@@ -93,7 +93,10 @@ graph_fault pipes = first_of (
     ∷ option_map WrongFlow (first_place has_wrong_flow pipes)
     ∷ option_map SamePath (first_place has_same_path pipes)
     ∷ worker_fault (length (worker_places pipes))
-    ∷ [])
+    ∷ []
+
+abbrev pub graph_fault : List Pipe → Option GraphFault
+graph_fault pipes = first_of (graph_faults pipes)
 
 -- the fields of a pipe are within their bounds, and it has an input exactly where it is no source
 pub record IsPipe (pipe : Pipe) : Type 0 where

@@ -7,7 +7,7 @@ ghost use Rattle.up_model.specs.KindMeaning.{Setting, admits};
 ghost use Rattle.up_model.specs.Kinds.{IsWithinBounds, output_of, settled_output, settled_work, work_of, setting_of, with_option, share_of, module_kind};
 ghost use Rattle.up_model.specs.Meaning.{sink_bytes};
 ghost use Rattle.up_model.specs.OptionValues.{IsSet};
-ghost use Rattle.up_model.specs.Outcomes.{carried_flow};
+ghost use Rattle.up_model.specs.Outcomes.{carried_as};
 ghost use Rattle.up_model.specs.Packet.{Flow, IsLegal, joined};
 ghost use Rattle.up_model.specs.Tallies.{IsAtMost, nothing, plus, added, stopped};
 ghost use Rattle.up_model.specs.Work.{no_work, Counts, CutsTheRest};
@@ -15,6 +15,7 @@ ghost use Rattle.up_model.specs.declared.kind.Kind.{Kind as TheKind};
 ghost use Rattle.up_model.specs.declared.kind.Kind.TheVariants as kinds;
 ghost use Rattle.up_model.specs.declared.limits.TheConstants.{MAX_PID};
 ghost use Rattle.up_model.specs.declared.opt.Opt.{Opt as TheOpt};
+ghost use Rattle.up_model.specs.declared.outcome.Outcome.{Outcome as TheOutcome};
 ghost use Rattle.up_model.specs.declared.pipe.Pipe.{Pipe as ThePipe};
 ghost use Rattle.up_model.specs.declared.tally.Tally.{Tally as TheTally};
 
@@ -85,10 +86,10 @@ pub fn shares_are_lawful()
         → All (λ number. number ≤ MAX_PID) numbers → IsWithinBounds (module_kind numbers kind) }
 {}
 
-/// What a source within its bounds carries is legal packets.
+/// What a source within its bounds carries, however it ends, is legal packets.
 pub fn carried_is_legal()
-    ensures { (kind : TheKind) (bytes : List ℕ) → IsWithinBounds kind
-        → All IsLegal (carried_flow kind bytes) }
+    ensures { (outcome : TheOutcome) (kind : TheKind) (bytes : List ℕ) → IsWithinBounds kind
+        → All IsLegal (carried_as outcome kind bytes) }
 {}
 
 /// An option lies within its own bounds. A value within them is set in that option alone, and the kind stays within its

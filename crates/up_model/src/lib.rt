@@ -9,6 +9,7 @@ mod fan_out;
 mod form;
 mod graph;
 mod graph_fault;
+mod graph_laws;
 mod kind;
 mod laws;
 mod limits;
@@ -31,6 +32,10 @@ pub use fan_out::FanOut;
 pub use form::{SinkForm, SourceForm};
 pub use graph::Graph;
 pub use graph_fault::GraphFault;
+pub use graph_laws::{
+    carried_bytes_come_first, carried_comes_first, flows_stay_legal, flows_unroll,
+    more_steps_reach_no_other, rules_are_kept, settled_bytes_grow, settled_flows_grow,
+};
 pub use kind::Kind;
 pub use laws::{
     blocks_rejoin, carried_is_legal, chain_copies, cut_is_the_rest, kept_sums_stop,

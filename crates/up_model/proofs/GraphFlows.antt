@@ -1,0 +1,71 @@
+-- What the pipes of a graph put out grows with what its sources give, and with the end of their flows.
+use Rattle.std.proofs.Common.{◌≡◌, ◌≤◌, ℕ, zero, suc, List, [], ◌++◌, All, Option, Some, None, slice_get, refl, sym, ap, ◌∙◌, length, subst}
+use Rattle.up_base.specs.Lists.{IsPrefix}
+use Rattle.up_model.proofs.EveryKind.{lawful}
+use Rattle.up_model.specs.Kinds.{IsWithinBounds, output_of, settled_output, share_of, module_kind, written_of}
+use Rattle.up_model.specs.Meaning.{Doing, wholly, so_far, selected, done_by, shared, taken_from, taken_by, work_at, flow_within, flow_by, bytes_by}
+use Rattle.up_model.specs.Packet.{Flow, IsLegal}
+use Rattle.up_model.specs.declared.kind.Kind.{Kind}
+use Rattle.up_model.specs.declared.kind.Kind.TheVariants.{Source}
+use Rattle.up_model.specs.declared.pipe.Pipe.{Pipe}
+
+-- what the one puts out for a flow is a prefix of what the other puts out for a longer one
+abbrev pub GrowsTo : Doing → Doing → Type 0
+GrowsTo less more = (place : ℕ) (kind : Kind) (a b : Flow) → IsWithinBounds kind → IsPrefix a b → IsPrefix (less place kind a).flow (more place kind b).flow
+
+-- the kind that each pipe's module has is within its bounds
+abbrev pub AreBounded : List Pipe → Type 0
+AreBounded pipes = (place : ℕ) (pipe : Pipe) → slice_get pipes place ≡ Some pipe → IsWithinBounds (module_kind (selected pipes place) pipe.kind)
+
+put_grows : (less more : Doing) → GrowsTo less more → (place : ℕ) (kind : Kind) (own own' a b : Flow) → IsWithinBounds kind → IsPrefix own own' → IsPrefix a b
+    → IsPrefix (done_by less place kind own a).flow (done_by more place kind own' b).flow
+put_grows less more grows place (Source path form limit) own own' a b within owns takes = owns
+put_grows less more grows place kind own own' a b within owns takes = grows place kind a b within takes
+
+share_grows : (input : Option Pipe) (select : Option ℕ) (a b : Flow) → IsPrefix a b → IsPrefix (shared input select a) (shared input select b)
+share_grows None select a b longer = ([], refl)
+share_grows (Some input) select a b longer =
+    subst (λ (f : Flow). IsPrefix (share_of input.kind select a) (share_of input.kind select f)) (sym longer.1)
+    ((lawful input.kind).shares.longer select a longer.0)
+
+module _ (pipes : List Pipe) where
+  pub taken_grows : (flows flows' : ℕ → Flow) (select input : Option ℕ) → ((place : ℕ) → IsPrefix (flows place) (flows' place))
+      → IsPrefix (taken_from pipes flows select input) (taken_from pipes flows' select input)
+  taken_grows flows flows' select None longer = ([], refl)
+  taken_grows flows flows' select (Some input) longer = share_grows (slice_get pipes input) select _ _ (longer input)
+
+  module _ (less more : Doing) (grows : GrowsTo less more) (bounded : AreBounded pipes)
+      (given given' : ℕ → Flow) (gives : (place : ℕ) → IsPrefix (given place) (given' place)) where
+    at_grows : (place : ℕ) (flows flows' : ℕ → Flow) (pipe : Option Pipe) → slice_get pipes place ≡ pipe
+        → ((place : ℕ) → IsPrefix (flows place) (flows' place))
+        → IsPrefix (work_at less pipes given flows place pipe).flow (work_at more pipes given' flows' place pipe).flow
+    at_grows place flows flows' None is longer = ([], refl)
+    at_grows place flows flows' (Some pipe) is longer =
+        put_grows less more grows place (module_kind (selected pipes place) pipe.kind) (given place) (given' place) _ _ (bounded place pipe is) (gives place)
+        (taken_grows flows flows' pipe.select pipe.input longer)
+
+    -- whatever is given longer comes out longer, by induction along inputs
+    pub flows_grow : (steps place : ℕ) → IsPrefix (flow_within less pipes given steps place) (flow_within more pipes given' steps place)
+    flows_grow zero place = ([], refl)
+    flows_grow (suc steps) place = at_grows place _ _ (slice_get pipes place) refl (flows_grow steps)
+
+-- what a sink writes goes on with what it takes
+pub written_grows : (kind : Kind) (a b : Flow) → IsWithinBounds kind → IsPrefix a b → IsPrefix (written_of kind a) (written_of kind b)
+written_grows kind a b within longer =
+    subst (λ (f : Flow). IsPrefix (written_of kind a) (written_of kind f)) (sym longer.1) (((lawful kind).flows within).writes_on a longer.0)
+
+module _ (pipes : List Pipe) (less more : Doing) (grows : GrowsTo less more) (bounded : AreBounded pipes)
+    (given given' : ℕ → Flow) (gives : (place : ℕ) → IsPrefix (given place) (given' place)) where
+  pub bytes_grow : (sink : Pipe) → IsWithinBounds sink.kind → IsPrefix (bytes_by less pipes given sink) (bytes_by more pipes given' sink)
+  bytes_grow sink within =
+      written_grows sink.kind _ _ within (taken_grows pipes _ _ sink.select sink.input (flows_grow pipes less more grows bounded given given' gives (length pipes)))
+
+-- so what is settled grows as more is given
+pub so_far-grows : GrowsTo so_far so_far
+so_far-grows place kind a b within longer =
+    subst (λ (f : Flow). IsPrefix (settled_output kind a) (settled_output kind f)) (sym longer.1) (((lawful kind).flows within).longer a longer.0)
+
+-- and it is a prefix of what comes of the whole flow
+pub so_far-wholly : GrowsTo so_far wholly
+so_far-wholly place kind a b within longer =
+    subst (λ (f : Flow). IsPrefix (settled_output kind a) (output_of kind f)) (sym longer.1) (((lawful kind).flows within).whole a longer.0)

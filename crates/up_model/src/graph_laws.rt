@@ -1,0 +1,96 @@
+// Laws of whole graphs. A law is the contract of a function that does nothing.
+ghost use Rattle.std.specs.Prelude.{◌≡◌, ◌<◌, ◌++◌, [], ℕ, true, Option, List, All, length, slice_get, Some, option_map};
+ghost use Rattle.std.specs.Option.{IsSome};
+ghost use Rattle.up_base.specs.Lists.{IsPrefix};
+ghost use Rattle.up_model.specs.Ends.{is_source, path_of};
+ghost use Rattle.up_model.specs.Inputs.{PipeTest, reached_within, reached, source_of};
+ghost use Rattle.up_model.specs.Kinds.{IsWithinBounds};
+ghost use Rattle.up_model.specs.Meaning.{Doing, flow_by, pipe_work, flow_at, input_of, sink_bytes, settled_flow, settled_input, settled_bytes};
+ghost use Rattle.up_model.specs.Outcomes.{carried_as, flows_by, whole_flows};
+ghost use Rattle.up_model.specs.Packet.{Flow, IsLegal};
+ghost use Rattle.up_model.specs.WellFormed.{IsWellFormed};
+ghost use Rattle.up_model.specs.declared.kind.Kind.{Kind as TheKind};
+ghost use Rattle.up_model.specs.declared.outcome.Outcome.{Outcome as TheOutcome};
+ghost use Rattle.up_model.specs.declared.outcome.Outcome.TheVariants as outcomes;
+ghost use Rattle.up_model.specs.declared.pipe.Pipe.{Pipe as ThePipe};
+
+/// In a well-formed graph names differ, each input is a pipe of the graph, and along inputs each pipe comes to a source.
+pub fn rules_are_kept()
+    ensures names { (pipes : List ThePipe) (a b : ℕ) (one other : ThePipe) → IsWellFormed pipes
+        → slice_get pipes a ≡ Some one → slice_get pipes b ≡ Some other
+        → one.name ≡ other.name → a ≡ b }
+    ensures inputs { (pipes : List ThePipe) (place input : ℕ) (pipe : ThePipe) → IsWellFormed pipes
+        → slice_get pipes place ≡ Some pipe → pipe.input ≡ Some input → input < length pipes }
+    ensures sources { (pipes : List ThePipe) (place : ℕ) → IsWellFormed pipes
+        → place < length pipes → (source : ℕ) × (pipe : ThePipe)
+        × (source_of pipes place ≡ Some source) × (slice_get pipes source ≡ Some pipe)
+        × (is_source pipe.kind ≡ true) }
+{}
+
+/// What is reached along inputs in any number of steps is reached in as many as there are pipes.
+pub fn more_steps_reach_no_other()
+    ensures { (test : PipeTest) (pipes : List ThePipe) (steps place found : ℕ)
+        → reached_within steps test pipes place ≡ Some found
+        → reached test pipes place ≡ Some found }
+{}
+
+/// What a pipe puts out is what it does with what it takes of what its input puts out.
+pub fn flows_unroll()
+    ensures { (does : Doing) (pipes : List ThePipe) (given : ℕ → Flow) (place : ℕ)
+        → IsSome (source_of pipes place)
+        → flow_by does pipes given place ≡ (pipe_work does pipes given place).flow }
+{}
+
+/// What is settled of given flows is a prefix of what is settled of longer ones, and of what comes of these in all.
+pub fn settled_flows_grow()
+    ensures longer { (pipes : List ThePipe) (given more : ℕ → Flow) (place : ℕ) → IsWellFormed pipes
+        → ((source : ℕ) → IsPrefix (given source) (more source))
+        → IsPrefix (settled_flow pipes given place) (settled_flow pipes more place) }
+    ensures whole { (pipes : List ThePipe) (given more : ℕ → Flow) (place : ℕ) → IsWellFormed pipes
+        → ((source : ℕ) → IsPrefix (given source) (more source))
+        → IsPrefix (settled_flow pipes given place) (flow_at pipes more place) }
+{}
+
+/// So are the bytes that are settled for a pipe, a sink's.
+pub fn settled_bytes_grow()
+    ensures longer { (pipes : List ThePipe) (given more : ℕ → Flow) (sink : ThePipe)
+        → IsWellFormed pipes → IsWithinBounds sink.kind
+        → ((source : ℕ) → IsPrefix (given source) (more source))
+        → IsPrefix (settled_bytes pipes given sink) (settled_bytes pipes more sink) }
+    ensures whole { (pipes : List ThePipe) (given more : ℕ → Flow) (sink : ThePipe)
+        → IsWellFormed pipes → IsWithinBounds sink.kind
+        → ((source : ℕ) → IsPrefix (given source) (more source))
+        → IsPrefix (settled_bytes pipes given sink) (sink_bytes pipes more sink) }
+{}
+
+/// What a source carried, however it ended, comes first of all that its bytes hold. A source that is whole gave all of them.
+pub fn carried_comes_first()
+    ensures { (ends : TheOutcome) (kind : TheKind) (bytes more : List ℕ) → IsWithinBounds kind
+        → (ends ≡ outcomes.Whole → more ≡ [])
+        → IsPrefix (carried_as ends kind bytes) (carried_as outcomes.Whole kind (bytes ++ more)) }
+{}
+
+/// What is settled for a sink of what its source carried is a prefix of what it is to hold of all of the source's bytes.
+pub fn carried_bytes_come_first()
+    ensures { (pipes : List ThePipe) (ends : ℕ → TheOutcome) (bytes more : ℕ → List ℕ)
+        (sink : ThePipe) → IsWellFormed pipes → IsWithinBounds sink.kind
+        → ((source : ℕ) → ends source ≡ outcomes.Whole → more source ≡ [])
+        → IsPrefix (settled_bytes pipes (flows_by pipes ends bytes) sink)
+        (sink_bytes pipes (whole_flows pipes (λ source. bytes source ++ more source)) sink) }
+{}
+
+/// In a well-formed graph all packets are legal where those of the sources are.
+pub fn flows_stay_legal()
+    ensures put { (pipes : List ThePipe) (given : ℕ → Flow) (place : ℕ) → IsWellFormed pipes
+        → ((source : ℕ) → All IsLegal (given source)) → All IsLegal (flow_at pipes given place) }
+    ensures taken { (pipes : List ThePipe) (given : ℕ → Flow) (pipe : ThePipe) → IsWellFormed pipes
+        → ((source : ℕ) → All IsLegal (given source)) → All IsLegal (input_of pipes given pipe) }
+    ensures settled_put { (pipes : List ThePipe) (given : ℕ → Flow) (place : ℕ)
+        → IsWellFormed pipes → ((source : ℕ) → All IsLegal (given source))
+        → All IsLegal (settled_flow pipes given place) }
+    ensures settled_taken { (pipes : List ThePipe) (given : ℕ → Flow) (pipe : ThePipe)
+        → IsWellFormed pipes → ((source : ℕ) → All IsLegal (given source))
+        → All IsLegal (settled_input pipes given pipe) }
+    ensures sources { (pipes : List ThePipe) (ends : ℕ → TheOutcome) (bytes : ℕ → List ℕ)
+        (place : ℕ) → IsWellFormed pipes → All IsLegal (flows_by pipes ends bytes place) }
+{}
