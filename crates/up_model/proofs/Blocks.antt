@@ -41,10 +41,11 @@ mapped-range f start (suc count) more =
 -- more pieces of more bytes go on with those of the front
 pieces_go_on : (size : ℕ) (a b : List ℕ) (count more : ℕ) → count * size ≤ length a → IsPrefix (pieces size a count) (pieces size (a ++ b) (count + more))
 pieces_go_on size a b count more within =
-    let same : (0 + count) * size ≤ length a = omega arith in
-    (map (λ p. plain (piece size (a ++ b) p)) (range_with_len (0 + count) more),
-        mapped-range (λ p. plain (piece size (a ++ b) p)) 0 count more
-        ∙ ap (λ f. f ++ map (λ p. plain (piece size (a ++ b) p)) (range_with_len (0 + count) more)) (pieces_of_front size a b 0 count same))
+    let same : (0 + count) * size ≤ length a = omega arith in (
+      map (λ p. plain (piece size (a ++ b) p)) (range_with_len (0 + count) more),
+      mapped-range (λ p. plain (piece size (a ++ b) p)) 0 count more
+          ∙ ap (λ f. f ++ map (λ p. plain (piece size (a ++ b) p)) (range_with_len (0 + count) more)) (pieces_of_front size a b 0 count same),
+    )
 
 go_on_to : (size : ℕ) (a b : List ℕ) (count all : ℕ) → count * size ≤ length a → count ≤ all → IsPrefix (pieces size a count) (pieces size (a ++ b) all)
 go_on_to size a b count all within few =

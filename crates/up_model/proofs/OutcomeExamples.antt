@@ -1,11 +1,14 @@
--- Worked examples of how a source ends and of what it then carried, computed.
-use Rattle.std.proofs.Common.{◌≡◌, [], ◌∷◌, map, refl}
+-- Worked examples of how pipes end and of what a source then carried, computed.
+use Rattle.std.proofs.Common.{◌≡◌, ℕ, zero, suc, Bool, true, false, List, [], ◌∷◌, Some, None, map, refl}
 use Rattle.std.specs.Prelude.{codes}
 use Rattle.up_model.proofs.ExampleChain.{raw_source}
-use Rattle.up_model.specs.Outcomes.{outcome_of, carried_flow}
+use Rattle.up_model.proofs.ExampleTree.{tree}
+use Rattle.up_model.specs.Inputs.{places}
+use Rattle.up_model.specs.Outcomes.{outcome_of, carried_as, carried_flow, pipe_outcome, outcome_at, deciding}
 use Rattle.up_model.specs.Packet.{plain}
-use Rattle.up_model.specs.declared.kind.Kind.TheVariants.{Idem}
-use Rattle.up_model.specs.declared.outcome.Outcome.TheVariants.{Whole, TooLong}
+use Rattle.up_model.specs.declared.form.SinkForm.TheVariants.{Raw}
+use Rattle.up_model.specs.declared.kind.Kind.TheVariants.{Sink, Idem}
+use Rattle.up_model.specs.declared.outcome.Outcome.TheVariants.{Whole, ReadFault, WriteFault, TooLong, Broken, NoMemory}
 
 -- as many bytes as the limit are whole
 pub at_the_limit : outcome_of (raw_source 4 10) (codes "abcdefghij") ≡ Whole
@@ -26,3 +29,36 @@ whole_blocks = refl
 -- a pipe that is no source is whole, and carries nothing of its own
 pub no_source : (outcome_of Idem (codes "abc") ≡ Whole) × (carried_flow Idem (codes "abc") ≡ [])
 no_source = (refl, refl)
+
+-- a read that failed leaves the blocks that are whole, also where the bytes given end with one
+pub at_a_fault :
+    (carried_as ReadFault (raw_source 4 10) (codes "abcdefg") ≡ plain (codes "abcd") ∷ [])
+    × (carried_as ReadFault (raw_source 4 10) (codes "abcd") ≡ plain (codes "abcd") ∷ [])
+at_a_fault = (refl, refl)
+
+-- of the tree, the first source has 11 bytes and a limit of 100, the second's read fails after two
+abbrev bytes : ℕ → List ℕ
+bytes zero = []
+bytes (suc zero) = codes "abcdefghijk"
+bytes (suc (suc place)) = codes "xy"
+
+abbrev second_fails : ℕ → Bool
+second_fails zero = false
+second_fails (suc zero) = false
+second_fails (suc (suc zero)) = true
+second_fails (suc (suc (suc place))) = false
+
+-- the second's own sink, at place 3, is broken; nothing else is
+pub one_branch : map (outcome_at tree second_fails bytes) (places tree) ≡ Whole ∷ Whole ∷ ReadFault ∷ Broken ∷ Whole ∷ Whole ∷ Whole ∷ []
+one_branch = refl
+
+-- a sink whose write failed has that cause, also behind a source that failed; a pipe between has none
+pub failed_calls :
+    (pipe_outcome (Sink (codes "o") Raw) true [] Broken ≡ WriteFault) × (pipe_outcome (Sink (codes "o") Raw) false [] ReadFault ≡ Broken)
+    × (pipe_outcome Idem true [] Whole ≡ Whole)
+failed_calls = (refl, refl, refl)
+
+-- the first in file order decides; where none has a cause, none does
+pub first_decides :
+    (deciding (Whole ∷ Broken ∷ WriteFault ∷ ReadFault ∷ []) ≡ Some 2) × (deciding (Whole ∷ Broken ∷ NoMemory ∷ []) ≡ None)
+first_decides = (refl, refl)

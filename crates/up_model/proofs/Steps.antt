@@ -147,13 +147,13 @@ module _ (test : PipeTest) (pipes : List Pipe) where
       elim step.way [
         | inl passes ↦ alone steps place found is step.pipe step.at passes.0 none here
         | inr further ↦
-          let rest = way_of steps further.1 found further.3 (λ k before. before_input k further.1 step.pipe step.at further.0 further.2 (none (suc k) (omega (arith, before)))) in
-          record {
-            places = place ∷ rest.places;
-            count = omega (arith, rest.count);
-            apart = (not_among steps found place rest.places (none steps (omega arith)) rest.each, rest.apart);
-            each = ((here, is), later steps found rest.places rest.each);
-          }
+            let rest = way_of steps further.1 found further.3 (λ k before. before_input k further.1 step.pipe step.at further.0 further.2 (none (suc k) (omega (arith, before)))) in
+            record {
+              places = place ∷ rest.places;
+              count = omega (arith, rest.count);
+              apart = (not_among steps found place rest.places (none steps (omega arith)) rest.each, rest.apart);
+              each = ((here, is), later steps found rest.places rest.each);
+            }
       ]
     where
       before_input : (k input : ℕ) (pipe : Pipe) → slice_get pipes place ≡ Some pipe → test pipes place pipe ≡ false → pipe.input ≡ Some input

@@ -1,16 +1,28 @@
 -- Worked examples of what the pipes of a tree put out and count, computed.
-use Rattle.std.proofs.Common.{◌≡◌, ℕ, [], ◌∷◌, Option, Some, None, map, refl}
-use Rattle.std.specs.Prelude.{codes}
-use Rattle.up_model.proofs.ExampleChain.{pipe}
+use Rattle.std.proofs.Common.{◌≡◌, true, false, List, ℕ, if◌then◌else◌, [], ◌∷◌, Option, Some, None, map, refl}
+use Rattle.std.specs.Prelude.{◌==◌, codes}
+use Rattle.up_model.proofs.ExampleChain.{pipe, raw_source}
 use Rattle.up_model.proofs.ExampleTree.{tree, given, archive, tails, other}
-use Rattle.up_model.specs.Meaning.{flow_at, selected, tally_of, sink_bytes}
+use Rattle.up_model.specs.Meaning.{wholly, Doing, flow_at, flow_by, selected, tally_of, sink_bytes, settled_bytes}
 use Rattle.up_model.specs.Packet.{plain}
-use Rattle.up_model.specs.declared.kind.Kind.TheVariants.{Idem}
+use Rattle.up_model.specs.Work.{no_work}
+use Rattle.up_model.specs.declared.kind.Kind.TheVariants.{Idem, Skip}
 use Rattle.up_model.specs.declared.pipe.Pipe.{Pipe}
 
 -- both consumers of the `dup` take its whole flow, one of them by a `skip`
 pub both_branches : (sink_bytes tree given archive ≡ codes "abcdefghij") × (sink_bytes tree given tails ≡ codes "dh")
 both_branches = (refl, refl)
+
+-- the kinds of this tree hold nothing back, so all of it is settled
+pub settled_too : (settled_bytes tree given archive ≡ codes "abcdefghij") × (settled_bytes tree given tails ≡ codes "dh")
+settled_too = (refl, refl)
+
+-- where the `dup`, which stands at place 4, does nothing with what it takes, neither of its consumers takes anything
+abbrev stopped_at_dup : Doing
+stopped_at_dup place kind taken = if place == 4 then no_work else wholly place kind taken
+
+pub no_consumer_served : (flow_by stopped_at_dup tree given 5 ≡ []) × (flow_by stopped_at_dup tree given 4 ≡ []) × (flow_by stopped_at_dup tree given 2 ≡ plain (codes "xy") ∷ [])
+no_consumer_served = (refl, refl, refl)
 
 -- the second source feeds its own sink alone
 pub second_source : sink_bytes tree given other ≡ codes "xy"
@@ -22,6 +34,15 @@ sums_of_dup = refl
 
 pub sums_of_skip : tally_of tree given 5 ≡ record { taken = 3; put = 2; dropped = 1; cut = 8; gained = 0; lost = 0 }
 sums_of_skip = refl
+
+-- what the pipe's own probe catches is 0
+abbrev quiet : List Pipe
+quiet =
+    pipe (codes "capture") None (raw_source 4 100)
+    ∷ record (pipe (codes "cut") (Some 0) (Skip 3)) { caught = record { drop = false; cut = true; sync = false; lost = false } } ∷ []
+
+pub caught_sums : tally_of quiet (λ place. given 1) 1 ≡ record { taken = 3; put = 2; dropped = 1; cut = 0; gained = 0; lost = 0 }
+caught_sums = refl
 
 -- pipes that take each other's output put nothing out, nor does one whose input isn't there
 pub no_source :

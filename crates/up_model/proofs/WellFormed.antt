@@ -108,6 +108,7 @@ selected_of place pipe number few is = few number (from_input pipe.input pipe.se
     by_test : (b : Bool) (select : Option ℕ) → cond b select None ≡ Some number → select ≡ Some number
     by_test true select is = is
     by_test false select is = absurd (cc)
+
     from_input : (input select : Option ℕ) → option_and_then (λ input. if input == place then select else None) input ≡ Some number → select ≡ Some number
     from_input None select is = absurd (cc)
     from_input (Some input) select is = by_test (input == place) select is

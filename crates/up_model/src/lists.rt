@@ -1,8 +1,11 @@
-use crate::{Pipe, PlainPacket};
+use crate::{Outcome, Pipe, PlainPacket};
 use up_base::{Bytes, ItemList};
 
 /// The pipes of a graph, in the order of its file.
 pub type PipeList = ItemList<Pipe>;
+
+/// How the pipes of a graph ended, in the order of its file.
+pub type OutcomeList = ItemList<Outcome>;
 
 /// Packets in order.
 pub type PacketList = ItemList<PlainPacket>;

@@ -1,3 +1,5 @@
+ghost use Rattle.std.specs.Prelude.{◌≡◌};
+
 /// How a run ended for one pipe.
 #[derive(Clone, Copy, Debug, PartialEq, Eq)]
 pub enum Outcome {
@@ -13,4 +15,30 @@ pub enum Outcome {
     Broken,
     /// No memory was found.
     NoMemory,
+}
+
+impl Outcome {
+    ghost use Rattle.up_model.specs.Outcomes.{is_cause, outcome_behind};
+
+    /// Whether it is the pipe's own fault, and no other pipe's.
+    pub fn is_cause(self) -> bool
+        ensures { result ≡ is_cause self }
+    {
+        match self {
+            Outcome::ReadFault | Outcome::WriteFault | Outcome::TooLong { .. } => true,
+            Outcome::Whole | Outcome::Broken | Outcome::NoMemory => false,
+        }
+    }
+
+    /// The outcome of a pipe without a fault of its own whose source ended so.
+    pub fn behind(self) -> Outcome
+        ensures { result ≡ outcome_behind self }
+    {
+        match self {
+            Outcome::Whole => Outcome::Whole,
+            Outcome::ReadFault | Outcome::WriteFault | Outcome::TooLong { .. } | Outcome::Broken =>
+                Outcome::Broken,
+            Outcome::NoMemory => Outcome::NoMemory,
+        }
+    }
 }

@@ -1,5 +1,7 @@
 ghost use Rattle.std.specs.Prelude.{◌≡◌};
 
+use crate::CatchSet;
+
 /// What a pipe did over a run, in six sums, each of which stops at 2^64 - 1.
 #[derive(Clone, Copy, Debug, Default, PartialEq, Eq)]
 pub struct Tally {
@@ -18,7 +20,7 @@ pub struct Tally {
 }
 
 impl Tally {
-    ghost use Rattle.up_model.specs.Tallies.{added, of_passed, of_dropped};
+    ghost use Rattle.up_model.specs.Tallies.{added, of_passed, of_dropped, uncaught};
 
     /// That of one packet that was taken and put out, less so many bytes.
     pub fn of_passed(cut: u64) -> Tally
@@ -59,6 +61,19 @@ impl Tally {
             cut: self.cut.saturating_add(more.cut),
             gained: self.gained.saturating_add(more.gained),
             lost: self.lost.saturating_add(more.lost),
+        }
+    }
+
+    /// These sums without those whose kind of event is caught, which are 0.
+    pub fn uncaught(self, caught: CatchSet) -> Tally
+        ensures { result ≡ uncaught caught self }
+    {
+        Tally {
+            dropped: if caught.drop { 0 } else { self.dropped },
+            cut: if caught.cut { 0 } else { self.cut },
+            gained: if caught.sync { 0 } else { self.gained },
+            lost: if caught.lost { 0 } else { self.lost },
+            ..self
         }
     }
 }
