@@ -2,7 +2,7 @@ use crate::{EndKind, Full, Item, LocalLane, MAX_QUEUE};
 use std::process::Abort;
 
 /// Gives up a lane from which all was received.
-fn end<P: Drop>(rt: &impl Abort, mut lane: LocalLane<P>) {
+fn end<P>(rt: &impl Abort, mut lane: LocalLane<P>) {
     match lane.try_receive() {
         None => lane.end(),
         Some(_) => panic!(rt; "an item is left"),
@@ -77,10 +77,10 @@ struct Token<'a> {
 }
 
 /// The name of the token that came, which is spent.
-fn spend<'a>(item: Item<Token<'a>>) -> Option<&'a str> {
+fn spend<'a>(item: Option<Item<Token<'a>>>) -> Option<&'a str> {
     match item {
-        Item::Packet(Token { name }) => Some(name),
-        Item::End(_) => None,
+        Some(Item::Packet(Token { name })) => Some(name),
+        Some(Item::End(_)) | None => None,
     }
 }
 
@@ -88,33 +88,23 @@ fn spend<'a>(item: Item<Token<'a>>) -> Option<&'a str> {
 fn send<'a>(lane: &mut LocalLane<Token<'a>>, name: &'a str) -> Option<&'a str> {
     match lane.try_send(Item::Packet(Token { name })) {
         Ok(()) => None,
-        Err(Full { item }) => spend(item),
+        Err(Full { item }) => spend(Some(item)),
     }
-}
-
-/// Spends the tokens that wait, and gives how many they were.
-fn spend_all(rt: &impl Abort, mut lane: LocalLane<Token<'_>>, names: &[&str]) {
-    let mut count = 0;
-    while let Some(item) = lane.try_receive() {
-        let name = spend(item);
-        assert_eq!(rt; name, names.get(count).copied());
-        count += 1;
-    }
-    lane.end();
-    assert_eq!(rt; count, names.len());
 }
 
 #[test]
 fn packets_that_cannot_be_dropped_are_handed_back_or_received(rt: HostRuntime) {
     let text = String::from_str(rt.alloc(), "first second third").expect(&rt, "no memory");
     let mut lane = LocalLane::new(rt.alloc(), 2).expect(&rt, "no memory");
-    let sent = [
+    let handed_back = [
         send(&mut lane, &text[..5]),
         send(&mut lane, &text[6..12]),
         send(&mut lane, &text[13..]),
     ];
-    spend_all(&rt, lane, &["first", "second"]);
-    assert_eq!(rt; sent, [None, None, Some("third")]);
+    let received = [spend(lane.try_receive()), spend(lane.try_receive())];
+    end(&rt, lane);
+    assert_eq!(rt; handed_back, [None, None, Some("third")]);
+    assert_eq!(rt; received, [Some("first"), Some("second")]);
 }
 
 /// Takes only what may cross threads.
