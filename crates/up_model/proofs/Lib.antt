@@ -10,6 +10,7 @@ pub mod EndsExamples
 pub mod EveryKind
 pub mod ExampleChain
 pub mod ExampleTree
+pub mod InputsExamples
 pub mod Lawful
 pub mod Legality
 pub mod MeaningExamples
@@ -26,3 +27,4 @@ pub mod SortedEntries
 pub mod TallyExamples
 pub mod TreeExamples
 pub mod ValueExamples
+pub mod WellFormedExamples
