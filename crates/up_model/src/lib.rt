@@ -10,6 +10,8 @@ mod faults;
 mod form;
 mod graph;
 mod graph_fault;
+#[cfg(test)]
+mod graph_tests;
 mod inputs;
 mod kind;
 mod laws;
