@@ -13,6 +13,7 @@ pub mod EveryKind
 pub mod ExampleChain
 pub mod ExampleTree
 pub mod GraphFlows
+pub mod InputsExamples
 pub mod Joined
 pub mod Lawful
 pub mod LegalFlows
@@ -24,6 +25,7 @@ pub mod OutcomeExamples
 pub mod PacketExamples
 pub mod Packets
 pub mod Packetwise
+pub mod Places
 pub mod Skip
 pub mod SkipExamples
 pub mod SortedEntries
@@ -33,3 +35,4 @@ pub mod TreeExamples
 pub mod ValueExamples
 pub mod Ways
 pub mod WellFormed
+pub mod WellFormedExamples

@@ -6,10 +6,14 @@ mod attr_tests;
 mod catch_set;
 mod event_kind;
 mod fan_out;
+mod faults;
 mod form;
 mod graph;
 mod graph_fault;
 mod graph_laws;
+#[cfg(test)]
+mod graph_tests;
+mod inputs;
 mod kind;
 mod laws;
 mod limits;
@@ -25,6 +29,7 @@ mod tally;
 mod tests;
 mod value;
 mod verdict;
+mod well_formed;
 
 pub use catch_set::CatchSet;
 pub use event_kind::EventKind;
