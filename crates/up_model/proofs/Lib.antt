@@ -19,6 +19,7 @@ pub mod OutcomeExamples
 pub mod PacketExamples
 pub mod Packets
 pub mod Packetwise
+pub mod PlainSteps
 pub mod Skip
 pub mod SkipExamples
 pub mod SortedEntries

@@ -1,3 +1,5 @@
+ghost use Rattle.std.specs.Prelude.{◌≡◌};
+
 use crate::{SinkForm, SourceForm};
 use up_base::{AttrName, Text};
 
@@ -29,4 +31,20 @@ pub enum Kind {
     DelAttr {
         attr: AttrName,
     },
+}
+
+impl Kind {
+    ghost use Rattle.up_model.specs.Ends.{is_source, is_sink};
+
+    pub fn is_source(&self) -> bool
+        ensures { result ≡ is_source self.now }
+    {
+        matches!(self, Kind::Source { .. })
+    }
+
+    pub fn is_sink(&self) -> bool
+        ensures { result ≡ is_sink self.now }
+    {
+        matches!(self, Kind::Sink { .. })
+    }
 }

@@ -18,7 +18,10 @@ mod outcome;
 mod packet_laws;
 mod pipe;
 mod plain_attrs;
+mod plain_ends;
+mod plain_kinds;
 mod plain_packet;
+mod plain_step;
 mod tally;
 #[cfg(test)]
 mod tests;
