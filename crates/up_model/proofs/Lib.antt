@@ -19,6 +19,8 @@ pub mod OutcomeExamples
 pub mod PacketExamples
 pub mod Packets
 pub mod Packetwise
+pub mod PlainFlows
+pub mod PlainKinds
 pub mod PlainSteps
 pub mod Skip
 pub mod SkipExamples

@@ -1,4 +1,4 @@
-use Rattle.std.proofs.Common.{◌≡◌, ◌++◌, sym}
+use Rattle.std.proofs.Common.{◌≡◌, ◌++◌}
 use Rattle.std.specs.Option.{option_to_list}
 use Rattle.up_model.specs.Packetwise.{put_of}
 use Rattle.up_model.proofs.PlainSteps.{passed_next}
