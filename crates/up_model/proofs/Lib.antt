@@ -23,6 +23,7 @@ pub mod Packetwise
 pub mod Places
 pub mod PlainFlows
 pub mod PlainKinds
+pub mod PlainLegal
 pub mod PlainSteps
 pub mod Skip
 pub mod SkipExamples

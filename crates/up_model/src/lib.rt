@@ -26,6 +26,8 @@ mod plain_flow;
 mod plain_kinds;
 mod plain_packet;
 mod plain_step;
+#[cfg(test)]
+mod plain_tests;
 mod tally;
 #[cfg(test)]
 mod tests;

@@ -29,6 +29,7 @@ pub fn plain_source(
         IfSome (slice_get graph.now.pipes pipe) (λ own. packets ≡ whole_flow own.kind bytes.now)) }
     ensures so_far { whole ≡ false → IfOk result (λ packets.
         IfSome (slice_get graph.now.pipes pipe) (λ own. packets ≡ flow_so_far own.kind bytes.now)) }
+    ensures legal { IfOk result (All IsLegal) }
 {
     kind_packets(alloc, &graph.pipes.at(pipe).kind, bytes, whole)
 }
@@ -50,6 +51,7 @@ pub fn plain_out(
     ensures settled { whole ≡ false → IfOk result (λ put.
         IfSome (slice_get graph.now.pipes pipe) (λ own.
         put ≡ settled_output (module_kind (selected graph.now.pipes pipe) own.kind) flow.now)) }
+    ensures legal { IfOk result (All IsLegal) }
 {
     kind_output(alloc, &graph.pipes.at(pipe).kind, flow, whole)
 }

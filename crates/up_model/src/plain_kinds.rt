@@ -92,7 +92,7 @@ impl PlainStep for TakesAway {
     }
 }
 
-/// What a pipe of the kind puts out for a flow, in all or as long as the flow goes on.
+/// What a pipe of the kind puts out for a flow, where this is all of it or where more may come.
 pub(crate) fn kind_output(
     alloc: Global,
     kind: &Kind,
