@@ -26,6 +26,10 @@ pub mod PacketExamples
 pub mod Packets
 pub mod Packetwise
 pub mod Places
+pub mod PlainFlows
+pub mod PlainKinds
+pub mod PlainLegal
+pub mod PlainSteps
 pub mod Skip
 pub mod SkipExamples
 pub mod SortedEntries

@@ -62,6 +62,14 @@ abbrev pub is_source : Kind → Bool
 is_source (Source path form limit) = true
 is_source kind = false
 
+abbrev pub is_sink : Kind → Bool
+is_sink (Sink path form) = true
+is_sink kind = false
+
+-- neither a source nor a sink
+abbrev pub is_between : Kind → Bool
+is_between kind = not (is_source kind) && not (is_sink kind)
+
 -- the path that a source reads or a sink writes
 abbrev pub path_of : Kind → Option (List ℕ)
 path_of (Source path form limit) = Some path

@@ -1,8 +1,9 @@
 -- The way along inputs: which pipes take from a place, and what is reached from one.
-use Rattle.std.specs.Prelude.{ℕ, zero, suc, ◌==◌, Bool, false, List, length, slice_get, Option, Some, None, option_and_then, if◌then◌else◌}
+use Rattle.std.specs.Prelude.{◌≡◌, ℕ, zero, suc, ◌==◌, Bool, true, false, List, length, slice_get, Option, Some, None, option_and_then, if◌then◌else◌}
 use Rattle.std.specs.List.{range_with_len, position, count_by}
 use Rattle.std.specs.Option.{option_map_or}
 use Rattle.up_model.specs.Ends.{is_source}
+use Rattle.up_model.specs.declared.kind.Kind.{Kind}
 use Rattle.up_model.specs.declared.pipe.Pipe.{Pipe}
 
 -- a test of a pipe, which stands at a place of these pipes
@@ -12,6 +13,11 @@ PipeTest = List Pipe → ℕ → Pipe → Bool
 -- a pipe stands at the place, and passes the test
 abbrev pub passes_at : PipeTest → List Pipe → ℕ → Bool
 passes_at test pipes place = option_map_or (test pipes place) (slice_get pipes place) false
+
+-- a pipe of such a kind stands at the place
+abbrev pub IsPlaceOf : (Kind → Bool) → List Pipe → ℕ → Type 0
+IsPlaceOf is_such pipes place =
+    passes_at (λ pipes place pipe. is_such pipe.kind) pipes place ≡ true
 
 -- all places, in file order
 abbrev pub places : List Pipe → List ℕ

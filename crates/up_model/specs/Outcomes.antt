@@ -1,5 +1,5 @@
 -- How the pipes of a graph end, and what a source then carried.
-use Rattle.std.specs.Prelude.{ℕ, Bool, true, false, List, [], length, take, position, nat_lt, slice_get, Option, if◌then◌else◌}
+use Rattle.std.specs.Prelude.{ℕ, Bool, true, false, List, [], length, take, position, nat_lt, slice_get, Option, unwrap_or, if◌then◌else◌}
 use Rattle.std.specs.Option.{option_map_or}
 use Rattle.up_model.specs.Cutting.{blocks, full_blocks}
 use Rattle.up_model.specs.Inputs.{source_of}
@@ -56,6 +56,20 @@ flows_by pipes ends bytes place =
 -- what each holds in all of its bytes
 abbrev pub whole_flows : List Pipe → (ℕ → List ℕ) → ℕ → Flow
 whole_flows pipes bytes = flows_by pipes (λ place. Whole) bytes
+
+-- what it holds whatever comes after these bytes
+abbrev pub flow_so_far : Kind → List ℕ → Flow
+flow_so_far (Source path form limit) bytes = whole_packets_of form bytes
+flow_so_far kind bytes = []
+
+-- the flow of the pipe at each place, where each source counts with all of its bytes
+abbrev pub given_flows : List Pipe → (ℕ → List ℕ) → ℕ → Flow
+given_flows pipes bytes place =
+    option_map_or (λ pipe. whole_flow pipe.kind (bytes place)) (slice_get pipes place) []
+
+-- the bytes at a place of a list that has an entry for each pipe
+abbrev pub bytes_at : List (List ℕ) → ℕ → List ℕ
+bytes_at given place = unwrap_or (slice_get given place) []
 
 -- the outcome of a pipe without a cause of its own, by that of its source
 abbrev pub outcome_behind : Outcome → Outcome

@@ -1,7 +1,7 @@
 ghost use Rattle.std.specs.Prelude.{◌≡◌, ◌↔◌, ◌==◌, IsTrue};
 ghost use Rattle.std.specs.List.{list_any};
 ghost use Rattle.std.specs.Option.{option_map};
-ghost use Rattle.up_model.specs.Ends.{IsPath, is_source, path_of};
+ghost use Rattle.up_model.specs.Ends.{IsPath, is_source, is_sink, path_of};
 ghost use Rattle.up_model.specs.Kinds.{IsWithinBounds, fan_out_of};
 
 use crate::{FanOut, MAX_BLOCK, MAX_LIMIT, MAX_PACKET, MAX_PATH, SinkForm, SourceForm};
@@ -58,6 +58,20 @@ impl Kind {
         match self {
             Kind::Source { .. } => true,
             Kind::Sink { .. }
+            | Kind::Idem
+            | Kind::Null
+            | Kind::Dup
+            | Kind::Skip { .. }
+            | Kind::DelAttr { .. } => false,
+        }
+    }
+
+    pub fn is_sink(&self) -> bool
+        ensures { result ≡ is_sink self.now }
+    {
+        match self {
+            Kind::Sink { .. } => true,
+            Kind::Source { .. }
             | Kind::Idem
             | Kind::Null
             | Kind::Dup

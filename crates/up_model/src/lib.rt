@@ -22,8 +22,15 @@ mod opt;
 mod outcome;
 mod packet_laws;
 mod pipe;
+mod plain;
 mod plain_attrs;
+mod plain_ends;
+mod plain_flow;
+mod plain_kinds;
 mod plain_packet;
+mod plain_step;
+#[cfg(test)]
+mod plain_tests;
 mod tally;
 #[cfg(test)]
 mod tests;
@@ -56,6 +63,7 @@ pub use opt::Opt;
 pub use outcome::Outcome;
 pub use packet_laws::packets_stay_legal;
 pub use pipe::{Pipe, default_worker};
+pub use plain::{plain_out, plain_output, plain_sink, plain_source};
 pub use plain_attrs::PlainAttrs;
 pub use plain_packet::PlainPacket;
 pub use tally::Tally;

@@ -10,7 +10,7 @@ ghost use Rattle.up_model.specs.Value.{lent};
 use crate::{Value, ValueView};
 use std::alloc::Global;
 use std::marker::Model;
-use up_base::{AttrName, NoRoom};
+use up_base::{AttrName, NoMemory, NoRoom};
 
 /// The attributes of a packet: values by their names, in the byte order of the names.
 #[derive(Debug, Drop)]
@@ -83,6 +83,17 @@ fn insert_at(
     }
 }
 
+/// The same entries, on memory of their own.
+fn copies(alloc: Global, entries: &[(AttrName, Value)]) -> Result<Vec<(AttrName, Value)>, NoMemory>
+    ensures { IfOk result (λ copies. copies.items ≡ entries.now) }
+{
+    let mut copies = Vec::new(alloc);
+    for (name, value) in entries {
+        copies.push((*name, value.copy(alloc)?))?;
+    }
+    Ok(copies)
+}
+
 impl PlainAttrs {
     /// No attributes. Nothing is allocated before the first of them.
     pub fn new(alloc: Global) -> PlainAttrs
@@ -151,5 +162,14 @@ impl PlainAttrs {
     {
         let entry = &self.entries[i];
         (entry.0, entry.1.view())
+    }
+
+    /// The same attributes, on memory of their own.
+    pub fn copy(&self, alloc: Global) -> Result<PlainAttrs, NoMemory>
+        ensures { IfOk result (λ copy. copy ≡ self.now) }
+    {
+        Ok(PlainAttrs {
+            entries: copies(alloc, &self.entries)?,
+        })
     }
 }

@@ -1,6 +1,7 @@
-ghost use Rattle.std.specs.Prelude.{◌≡◌};
+ghost use Rattle.std.specs.Prelude.{◌≡◌, IfOk};
 
-use up_base::{Bytes, Text};
+use std::alloc::Global;
+use up_base::{Bytes, NoMemory, Text};
 
 /// The value of an attribute of a packet.
 #[derive(Debug, Drop)]
@@ -38,5 +39,17 @@ impl Value {
             Value::Words(text) => ValueView::Words(text.as_str()),
             Value::Opaque(bytes) => ValueView::Opaque(bytes.as_slice()),
         }
+    }
+    /// The same value, on memory of its own.
+    pub fn copy(&self, alloc: Global) -> Result<Value, NoMemory>
+        ensures { IfOk result (λ copy. copy ≡ self.now) }
+    {
+        Ok(match self {
+            Value::Void => Value::Void,
+            Value::Flag(flag) => Value::Flag(*flag),
+            Value::Unsigned(number) => Value::Unsigned(*number),
+            Value::Words(text) => Value::Words(Text::from_str(alloc, text.as_str())?),
+            Value::Opaque(bytes) => Value::Opaque(Bytes::from_slice(alloc, bytes.as_slice())?),
+        })
     }
 }

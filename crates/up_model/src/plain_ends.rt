@@ -1,0 +1,115 @@
+// What the ends of a graph read and write, by their definitions.
+ghost use Rattle.std.specs.Prelude.{◌≡◌, ◌+◌, ◌*◌, ◌<◌, ◌≤◌, length, true, false, IfOk};
+ghost use Rattle.up_model.specs.Cutting.{piece, pieces};
+ghost use Rattle.up_model.specs.Ends.{IsSourceForm, written_by};
+ghost use Rattle.up_model.specs.Kinds.{IsWithinBounds, written_of};
+ghost use Rattle.up_model.specs.Outcomes.{packets_of, whole_packets_of, whole_flow, flow_so_far};
+ghost use Rattle.up_model.specs.Packet.{joined};
+
+use crate::{Kind, PacketList, PlainPacket, SinkForm, SourceForm};
+use std::alloc::Global;
+use up_base::{Bytes, NoMemory};
+
+/// The bytes from this multiple of the size up to the next, or to the end.
+fn piece(bytes: &[u8], size: usize, place: usize) -> &[u8]
+    requires { place * size ≤ length bytes.now }
+    ensures { result.now ≡ piece size bytes.now place }
+{
+    let rest = &bytes[place * size..];
+    &rest[..size.min(rest.len())]
+}
+
+/// The first pieces, each a packet.
+fn pieces(alloc: Global, size: usize, bytes: &[u8], count: usize) -> Result<PacketList, NoMemory>
+    requires { count * size < length bytes.now + size }
+    ensures { IfOk result (λ packets. packets ≡ pieces size bytes.now count) }
+{
+    let mut packets = PacketList::new(alloc);
+    for place in 0..count {
+        let packet = PlainPacket::of_bytes(alloc, piece(bytes, size, place))?;
+        packets.push(packet).map_err(|_| NoMemory)?;
+    }
+    Ok(packets)
+}
+
+/// The packets that bytes of the form hold, where these are all of them or where more may come.
+fn form_packets(
+    alloc: Global,
+    form: SourceForm,
+    bytes: &[u8],
+    whole: bool,
+) -> Result<PacketList, NoMemory>
+    requires { IsSourceForm form }
+    ensures whole { whole ≡ true → IfOk result (λ packets. packets ≡ packets_of form bytes.now) }
+    ensures so_far { whole ≡ false
+        → IfOk result (λ packets. packets ≡ whole_packets_of form bytes.now) }
+{
+    match form {
+        SourceForm::Raw { block } => {
+            let size = block as usize;
+            if whole {
+                pieces(alloc, size, bytes, (bytes.len() + size - 1) / size)
+            } else {
+                pieces(alloc, size, bytes, bytes.len() / size)
+            }
+        }
+    }
+}
+
+/// The packets of a source of the kind, where these are all of its bytes or where more may come.
+pub(crate) fn kind_packets(
+    alloc: Global,
+    kind: &Kind,
+    bytes: &[u8],
+    whole: bool,
+) -> Result<PacketList, NoMemory>
+    requires { IsWithinBounds kind.now }
+    ensures whole { whole ≡ true → IfOk result (λ packets. packets ≡ whole_flow kind.now bytes.now) }
+    ensures so_far { whole ≡ false
+        → IfOk result (λ packets. packets ≡ flow_so_far kind.now bytes.now) }
+{
+    match kind {
+        Kind::Source { form, .. } => form_packets(alloc, *form, bytes, whole),
+        Kind::Sink { .. }
+        | Kind::Idem
+        | Kind::Null
+        | Kind::Dup
+        | Kind::Skip { .. }
+        | Kind::DelAttr { .. } => Ok(PacketList::new(alloc)),
+    }
+}
+
+/// The bytes of the packets, one after the other.
+fn joined(alloc: Global, flow: &PacketList) -> Result<Bytes, NoMemory>
+    ensures { IfOk result (λ bytes. bytes ≡ joined flow.now) }
+{
+    let mut bytes = Bytes::new(alloc);
+    for place in 0..flow.len() {
+        bytes.append(flow.at(place).bytes.as_slice())?;
+    }
+    Ok(bytes)
+}
+
+/// The bytes that a sink of the form writes of a flow.
+fn form_bytes(alloc: Global, form: SinkForm, flow: &PacketList) -> Result<Bytes, NoMemory>
+    ensures { IfOk result (λ bytes. bytes ≡ written_by form flow.now) }
+{
+    match form {
+        SinkForm::Raw => joined(alloc, flow),
+    }
+}
+
+/// The bytes that a pipe of the kind writes of a flow.
+pub(crate) fn kind_bytes(alloc: Global, kind: &Kind, flow: &PacketList) -> Result<Bytes, NoMemory>
+    ensures { IfOk result (λ bytes. bytes ≡ written_of kind.now flow.now) }
+{
+    match kind {
+        Kind::Sink { form, .. } => form_bytes(alloc, *form, flow),
+        Kind::Source { .. }
+        | Kind::Idem
+        | Kind::Null
+        | Kind::Dup
+        | Kind::Skip { .. }
+        | Kind::DelAttr { .. } => Ok(Bytes::new(alloc)),
+    }
+}
