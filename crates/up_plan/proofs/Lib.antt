@@ -1,2 +1,6 @@
+pub mod Members
+pub mod OneStrand
+pub mod OneWorker
 pub mod Places
 pub mod Ways
+pub mod WellFormedSources

@@ -2,11 +2,16 @@
 #![tactic(auto)]
 
 mod heads;
+mod laws;
 mod lists;
 mod plan;
 mod split;
 mod strands;
 mod workers;
 
+pub use laws::{
+    a_head_is_in_its_own_strand, a_strand_is_fed_by_its_head, a_strand_runs_on_one_worker,
+    each_pipe_is_in_one_strand, each_strand_is_on_one_worker,
+};
 pub use plan::{Plan, PlanStrand, PlanWorker, StrandList, WorkerList};
 pub use split::make_plan;
