@@ -10,6 +10,7 @@ pub mod EndsExamples
 pub mod EveryKind
 pub mod ExampleChain
 pub mod ExampleTree
+pub mod InputsExamples
 pub mod Lawful
 pub mod Legality
 pub mod MeaningExamples
@@ -19,9 +20,11 @@ pub mod OutcomeExamples
 pub mod PacketExamples
 pub mod Packets
 pub mod Packetwise
+pub mod Places
 pub mod Skip
 pub mod SkipExamples
 pub mod SortedEntries
 pub mod TallyExamples
 pub mod TreeExamples
 pub mod ValueExamples
+pub mod WellFormedExamples

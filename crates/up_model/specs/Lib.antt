@@ -11,6 +11,7 @@ pub mod OptionValues
 pub mod Outcomes
 pub mod Packet
 pub mod Packetwise
+pub mod PipeTests
 pub mod Plans
 pub mod Skip
 pub mod Tallies

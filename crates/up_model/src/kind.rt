@@ -1,4 +1,10 @@
-use crate::{SinkForm, SourceForm};
+ghost use Rattle.std.specs.Prelude.{◌≡◌, ◌↔◌, ◌==◌, IsTrue};
+ghost use Rattle.std.specs.List.{list_any};
+ghost use Rattle.std.specs.Option.{option_map};
+ghost use Rattle.up_model.specs.Ends.{IsPath, is_source, path_of};
+ghost use Rattle.up_model.specs.Kinds.{IsWithinBounds, fan_out_of};
+
+use crate::{FanOut, MAX_BLOCK, MAX_LIMIT, MAX_PACKET, MAX_PATH, SinkForm, SourceForm};
 use up_base::{AttrName, Text};
 
 /// What a pipe does, with the fields of its kind.
@@ -29,4 +35,76 @@ pub enum Kind {
     DelAttr {
         attr: AttrName,
     },
+}
+
+fn has_zero(bytes: &[u8]) -> bool
+    ensures { result ≡ list_any (λ byte. byte == 0) bytes.now }
+{
+    bytes.iter().any(|byte| *byte == 0)
+}
+
+/// Whether the path has 1 to 4,096 bytes, none of them zero.
+fn is_path(path: &Text) -> bool
+    ensures { IsTrue result ↔ IsPath path.now }
+{
+    let bytes = path.as_slice();
+    !bytes.is_empty() && bytes.len() <= MAX_PATH && !has_zero(bytes)
+}
+
+impl Kind {
+    pub fn is_source(&self) -> bool
+        ensures { result ≡ is_source self.now }
+    {
+        match self {
+            Kind::Source { .. } => true,
+            Kind::Sink { .. }
+            | Kind::Idem
+            | Kind::Null
+            | Kind::Dup
+            | Kind::Skip { .. }
+            | Kind::DelAttr { .. } => false,
+        }
+    }
+
+    /// How many consumers its output can feed.
+    pub fn fan_out(&self) -> FanOut
+        ensures { result ≡ fan_out_of self.now }
+    {
+        match self {
+            Kind::Sink { .. } | Kind::Null => FanOut::None,
+            Kind::Source { .. } | Kind::Idem | Kind::Skip { .. } | Kind::DelAttr { .. } => {
+                FanOut::One
+            }
+            Kind::Dup => FanOut::All,
+        }
+    }
+
+    /// The path that a source reads or a sink writes.
+    pub fn path(&self) -> Option<&Text>
+        ensures { option_map (λ path. path.now) result ≡ path_of self.now }
+    {
+        match self {
+            Kind::Source { path, .. } | Kind::Sink { path, .. } => Some(path),
+            Kind::Idem | Kind::Null | Kind::Dup | Kind::Skip { .. } | Kind::DelAttr { .. } => None,
+        }
+    }
+
+    /// Whether its fields are within their bounds.
+    pub fn is_within_bounds(&self) -> bool
+        ensures { IsTrue result ↔ IsWithinBounds self.now }
+    {
+        match self {
+            Kind::Source {
+                path,
+                form: SourceForm::Raw { block },
+                limit,
+            } => is_path(path) && 1 <= *block && *block <= MAX_BLOCK && *limit <= MAX_LIMIT,
+            Kind::Sink {
+                path,
+                form: SinkForm::Raw,
+            } => is_path(path),
+            Kind::Skip { bytes } => *bytes <= MAX_PACKET,
+            Kind::Idem | Kind::Null | Kind::Dup | Kind::DelAttr { .. } => true,
+        }
+    }
 }
