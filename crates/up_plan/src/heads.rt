@@ -1,7 +1,6 @@
 // Which pipes are heads, and whose head each is.
 ghost use Rattle.std.specs.Prelude.{◌≡◌, ◌≤◌, length, slice_get, IfOk};
 ghost use Rattle.std.specs.Option.{option_and_then};
-ghost use Rattle.up_model.specs.Ends.{is_source as is_source_kind};
 ghost use Rattle.up_model.specs.Inputs.{passes_at};
 ghost use Rattle.up_model.specs.Plans as plans;
 ghost use Rattle.up_model.specs.declared.limits.TheConstants.{MAX_PIPES};
@@ -10,19 +9,13 @@ ghost use Rattle.up_plan.specs.Plan.{head_of_each};
 use crate::lists::pipe_at;
 use std::alloc::Global;
 use up_base::NoMemory;
-use up_model::{Kind, Pipe, PipeList};
+use up_model::{Pipe, PipeList};
 
 /// The place that the pipe at a place takes from.
 fn input_at(pipes: &PipeList, place: u16) -> Option<u16>
     ensures { result ≡ option_and_then (λ pipe. pipe.input) (slice_get pipes.now place) }
 {
     pipe_at(pipes, place)?.input
-}
-
-fn is_source(pipe: &Pipe) -> bool
-    ensures { result ≡ is_source_kind pipe.now.kind }
-{
-    matches!(pipe.kind, Kind::Source { .. })
 }
 
 /// Whether a pipe has another worker than its input.
@@ -43,7 +36,7 @@ fn is_head(pipes: &PipeList, place: u16) -> bool
     ensures { result ≡ passes_at plans.is_head pipes.now place }
 {
     match pipe_at(pipes, place) {
-        Some(pipe) => is_source(pipe) || changes_worker(pipes, pipe),
+        Some(pipe) => pipe.kind.is_source() || changes_worker(pipes, pipe),
         None => false,
     }
 }
@@ -53,7 +46,7 @@ fn is_fed(pipes: &PipeList, place: u16) -> bool
     ensures { result ≡ passes_at plans.is_fed pipes.now place }
 {
     match pipe_at(pipes, place) {
-        Some(pipe) => !is_source(pipe),
+        Some(pipe) => !pipe.kind.is_source(),
         None => false,
     }
 }

@@ -7,6 +7,8 @@ mod lists;
 mod plan;
 mod split;
 mod strands;
+#[cfg(test)]
+mod tests;
 mod workers;
 
 pub use laws::{
