@@ -1,5 +1,5 @@
 -- What a split keeps: every pipe in one strand, every strand on one worker.
-use Rattle.std.specs.Prelude.{◌≡◌, ℕ, List, Option, Some, slice_get}
+use Rattle.std.specs.Prelude.{◌≡◌, ◌≢◌, ℕ, List, Option, Some, slice_get}
 use Rattle.std.specs.List.{Contains}
 use Rattle.std.specs.Option.{option_and_then}
 use Rattle.up_model.specs.Plans.{heads, strand_of, heads_on}
@@ -31,3 +31,9 @@ pub record IsFedWithin (pipes : List Pipe) (head place : ℕ) : Type 0 where
   pub input : ℕ
   pub takes : input_at pipes place ≡ Some input
   pub within : Contains (strand_of pipes head) input
+
+-- the pipe at a place takes from a pipe of another worker
+pub record ComesFromElsewhere (pipes : List Pipe) (place : ℕ) : Type 0 where
+  pub input : ℕ
+  pub takes : input_at pipes place ≡ Some input
+  pub other : worker_at pipes input ≢ worker_at pipes place

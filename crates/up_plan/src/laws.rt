@@ -1,10 +1,11 @@
 // Laws of the split. A law is the contract of a function that does nothing.
-ghost use Rattle.std.specs.Prelude.{◌≡◌, ◌≢◌, ◌<◌, ℕ, List, length};
+ghost use Rattle.std.specs.Prelude.{◌≡◌, ◌≢◌, ◌<◌, ◌+◌, ℕ, List, length, count_by};
 ghost use Rattle.std.specs.List.{Contains};
-ghost use Rattle.up_model.specs.Plans.{heads, strand_of, heads_on};
+ghost use Rattle.up_model.specs.Ends.{is_source};
+ghost use Rattle.up_model.specs.Plans.{heads, strand_of, lanes, heads_on};
 ghost use Rattle.up_model.specs.WellFormed.{IsWellFormed};
 ghost use Rattle.up_model.specs.declared.pipe.Pipe.{Pipe as ThePipe};
-ghost use Rattle.up_plan.specs.Laws.{IsInOneStrand, IsOnOneWorker, IsFedWithin};
+ghost use Rattle.up_plan.specs.Laws.{ComesFromElsewhere, IsInOneStrand, IsOnOneWorker, IsFedWithin};
 ghost use Rattle.up_plan.specs.Plan.{worker_at};
 
 /// Each pipe of a well-formed graph stands in exactly one strand.
@@ -37,4 +38,16 @@ pub fn each_strand_is_on_one_worker()
         → Contains (heads_on pipes worker) head → Contains (heads pipes) head }
     ensures one { (pipes : List ThePipe) (head : ℕ) → Contains (heads pipes) head
         → IsOnOneWorker pipes head }
+{}
+
+/// There is a strand for each source, and one for each lane.
+pub fn lanes_are_strands_less_sources()
+    ensures { (pipes : List ThePipe) → length (lanes pipes)
+        + count_by (λ pipe. is_source pipe.kind) pipes ≡ length (heads pipes) }
+{}
+
+/// A lane leads from a pipe of one worker to a head of another.
+pub fn a_lane_comes_from_another_worker()
+    ensures { (pipes : List ThePipe) (head : ℕ) → Contains (lanes pipes) head
+        → ComesFromElsewhere pipes head }
 {}
