@@ -7,7 +7,7 @@ use Rattle.up_model.proofs.PlainKinds.{undivided}
 use Rattle.up_model.specs.Ends.{is_source}
 use Rattle.up_model.specs.Kinds.{output_of}
 use Rattle.up_model.specs.Meaning.{wholly, done_by, selected, shared, taken_by, work_at, flow_within}
-use Rattle.up_model.specs.Outcomes.{whole_flow, given_flows, bytes_at}
+use Rattle.up_model.specs.Outcomes.{whole_flow, whole_flows, bytes_at}
 use Rattle.up_model.specs.Packet.{Flow}
 use Rattle.up_model.specs.declared.kind.Kind.{Kind}
 use Rattle.up_model.specs.declared.kind.Kind.TheVariants.{Source}
@@ -49,9 +49,9 @@ module _ (pipes : List Pipe) (given : List (List ℕ)) (steps place : ℕ) (pipe
 
   -- a source puts out the packets of its bytes
   pub source_flow : (bytes : List ℕ) → slice_get given place ≡ Some bytes → is_source pipe.kind ≡ true
-      → flow_within wholly pipes (given_flows pipes (bytes_at given)) steps place ≡ whole_flow pipe.kind bytes
+      → flow_within wholly pipes (whole_flows pipes (bytes_at given)) steps place ≡ whole_flow pipe.kind bytes
   source_flow bytes are is =
-      let flows = given_flows pipes (bytes_at given) in
+      let flows = whole_flows pipes (bytes_at given) in
       ap (λ steps. flow_within wholly pipes flows steps place) one_less
       ∙ unrolled pipes flows (steps - 1) place pipe there
       ∙ source_puts place pipe.kind (flows place) (taken_by pipes (flow_within wholly pipes flows (steps - 1)) pipe) is
@@ -60,10 +60,10 @@ module _ (pipes : List Pipe) (given : List (List ℕ)) (steps place : ℕ) (pipe
 
   -- any other pipe puts out what its kind makes of what it takes
   pub other_flow : is_source pipe.kind ≡ false
-      → flow_within wholly pipes (given_flows pipes (bytes_at given)) steps place
-      ≡ output_of pipe.kind (taken_by pipes (flow_within wholly pipes (given_flows pipes (bytes_at given)) (steps - 1)) pipe)
+      → flow_within wholly pipes (whole_flows pipes (bytes_at given)) steps place
+      ≡ output_of pipe.kind (taken_by pipes (flow_within wholly pipes (whole_flows pipes (bytes_at given)) (steps - 1)) pipe)
   other_flow is =
-      let flows = given_flows pipes (bytes_at given) in
+      let flows = whole_flows pipes (bytes_at given) in
       ap (λ steps. flow_within wholly pipes flows steps place) one_less
       ∙ unrolled pipes flows (steps - 1) place pipe there
       ∙ other_puts place pipe.kind (flows place) (taken_by pipes (flow_within wholly pipes flows (steps - 1)) pipe) is

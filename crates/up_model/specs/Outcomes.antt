@@ -25,24 +25,29 @@ packets_of (Raw block) bytes = blocks block bytes
 abbrev pub whole_packets_of : SourceForm → List ℕ → Flow
 whole_packets_of (Raw block) bytes = full_blocks block bytes
 
--- what a source carried that ended so and was given these bytes; it has no other outcome once it is opened
-abbrev pub carried_by : Outcome → SourceForm → List ℕ → Flow
-carried_by Whole form bytes = packets_of form bytes
-carried_by ReadFault form bytes = whole_packets_of form bytes
-carried_by (TooLong limit) form bytes = whole_packets_of form (take limit bytes)
-carried_by WriteFault form bytes = []
-carried_by Broken form bytes = []
-carried_by NoMemory form bytes = []
-
 -- where no read fails: as a source of its form; a pipe that is no source is whole
 abbrev pub outcome_of : Kind → List ℕ → Outcome
 outcome_of (Source path form limit) bytes = source_outcome form limit bytes
 outcome_of kind bytes = Whole
 
--- what a pipe carried that ended so and was given these bytes; one that is no source carries nothing of its own
+-- the packets of a source's bytes, where these are all of them; a pipe that is no source carries nothing of its own
+abbrev pub whole_flow : Kind → List ℕ → Flow
+whole_flow (Source path form limit) bytes = packets_of form bytes
+whole_flow kind bytes = []
+
+-- those that it has whatever comes after these bytes
+abbrev pub flow_so_far : Kind → List ℕ → Flow
+flow_so_far (Source path form limit) bytes = whole_packets_of form bytes
+flow_so_far kind bytes = []
+
+-- what a pipe carried that ended so and was given these bytes; an open source ends in no other way than the first three
 abbrev pub carried_as : Outcome → Kind → List ℕ → Flow
-carried_as outcome (Source path form limit) bytes = carried_by outcome form bytes
-carried_as outcome kind bytes = []
+carried_as Whole kind bytes = whole_flow kind bytes
+carried_as ReadFault kind bytes = flow_so_far kind bytes
+carried_as (TooLong limit) kind bytes = flow_so_far kind (take limit bytes)
+carried_as WriteFault kind bytes = []
+carried_as Broken kind bytes = []
+carried_as NoMemory kind bytes = []
 
 -- where no read fails
 abbrev pub carried_flow : Kind → List ℕ → Flow
@@ -53,19 +58,9 @@ abbrev pub flows_by : List Pipe → (ℕ → Outcome) → (ℕ → List ℕ) →
 flows_by pipes ends bytes place =
     option_map_or (λ pipe. carried_as (ends place) pipe.kind (bytes place)) (slice_get pipes place) []
 
--- what each holds in all of its bytes
+-- the same where each source counts with all of its bytes
 abbrev pub whole_flows : List Pipe → (ℕ → List ℕ) → ℕ → Flow
 whole_flows pipes bytes = flows_by pipes (λ place. Whole) bytes
-
--- what it holds whatever comes after these bytes
-abbrev pub flow_so_far : Kind → List ℕ → Flow
-flow_so_far (Source path form limit) bytes = whole_packets_of form bytes
-flow_so_far kind bytes = []
-
--- the flow of the pipe at each place, where each source counts with all of its bytes
-abbrev pub given_flows : List Pipe → (ℕ → List ℕ) → ℕ → Flow
-given_flows pipes bytes place =
-    option_map_or (λ pipe. whole_flow pipe.kind (bytes place)) (slice_get pipes place) []
 
 -- the bytes at a place of a list that has an entry for each pipe
 abbrev pub bytes_at : List (List ℕ) → ℕ → List ℕ

@@ -6,7 +6,7 @@ ghost use Rattle.up_model.specs.Ends.{is_source, path_of};
 ghost use Rattle.up_model.specs.Inputs.{PipeTest, reached_within, reached, source_of};
 ghost use Rattle.up_model.specs.Kinds.{IsWithinBounds};
 ghost use Rattle.up_model.specs.Meaning.{Doing, flow_by, pipe_work, flow_at, input_of, sink_bytes, settled_flow, settled_input, settled_bytes};
-ghost use Rattle.up_model.specs.Outcomes.{carried_as, flows_by, whole_flows};
+ghost use Rattle.up_model.specs.Outcomes.{carried_as, flows_by, whole_flow, whole_flows};
 ghost use Rattle.up_model.specs.Packet.{Flow, IsLegal};
 ghost use Rattle.up_model.specs.WellFormed.{IsWellFormed};
 ghost use Rattle.up_model.specs.declared.kind.Kind.{Kind as TheKind};
@@ -67,7 +67,7 @@ pub fn settled_bytes_grow()
 pub fn carried_comes_first()
     ensures { (ends : TheOutcome) (kind : TheKind) (bytes more : List ℕ) → IsWithinBounds kind
         → (ends ≡ outcomes.Whole → more ≡ [])
-        → IsPrefix (carried_as ends kind bytes) (carried_as outcomes.Whole kind (bytes ++ more)) }
+        → IsPrefix (carried_as ends kind bytes) (whole_flow kind (bytes ++ more)) }
 {}
 
 /// What is settled for a sink of what its source carried is a prefix of what it is to hold of all of the source's bytes.

@@ -4,7 +4,7 @@ ghost use Rattle.up_model.specs.Ends.{is_source, is_sink, is_between};
 ghost use Rattle.up_model.specs.Inputs.{IsPlaceOf};
 ghost use Rattle.up_model.specs.Kinds.{output_of, settled_output, written_of, module_kind};
 ghost use Rattle.up_model.specs.Meaning.{selected, sink_bytes};
-ghost use Rattle.up_model.specs.Outcomes.{whole_flow, flow_so_far, given_flows, bytes_at};
+ghost use Rattle.up_model.specs.Outcomes.{whole_flow, flow_so_far, whole_flows, bytes_at};
 ghost use Rattle.up_model.specs.Packet.{IsLegal};
 ghost use Rattle.up_model.specs.WellFormed.{IsWellFormed};
 
@@ -83,7 +83,7 @@ pub fn plain_output(
     requires each { length given.now ≡ length graph.now.pipes }
     requires sink { IsPlaceOf is_sink graph.now.pipes sink }
     ensures { IfOk result (λ bytes. IfSome (slice_get graph.now.pipes sink) (λ own.
-        bytes ≡ sink_bytes graph.now.pipes (given_flows graph.now.pipes (bytes_at given.now)) own)) }
+        bytes ≡ sink_bytes graph.now.pipes (whole_flows graph.now.pipes (bytes_at given.now)) own)) }
 {
     let own = graph.pipes.at(sink);
     let taken = input_within(alloc, graph, given, graph.pipes.len(), own)?;

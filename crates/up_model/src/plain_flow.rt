@@ -1,7 +1,7 @@
 // What the pipes of a graph take and put out, back to a source.
 ghost use Rattle.std.specs.Prelude.{◌≡◌, length, IfOk};
 ghost use Rattle.up_model.specs.Meaning.{wholly, flow_within, taken_by};
-ghost use Rattle.up_model.specs.Outcomes.{given_flows, bytes_at};
+ghost use Rattle.up_model.specs.Outcomes.{whole_flows, bytes_at};
 ghost use Rattle.up_model.specs.WellFormed.{IsWellFormed};
 
 use crate::plain_ends::kind_packets;
@@ -21,7 +21,7 @@ fn flow_within(
 ) -> Result<PacketList, NoMemory>
     requires well_formed { IsWellFormed graph.now.pipes }
     requires each { length given.now ≡ length graph.now.pipes }
-    ensures { let flows = given_flows graph.now.pipes (bytes_at given.now) in
+    ensures { let flows = whole_flows graph.now.pipes (bytes_at given.now) in
         IfOk result (λ put. put ≡ flow_within wholly graph.now.pipes flows steps place) }
 {
     if steps == 0 || graph.pipes.len() <= place {
@@ -46,7 +46,7 @@ pub(crate) fn input_within(
 ) -> Result<PacketList, NoMemory>
     requires well_formed { IsWellFormed graph.now.pipes }
     requires each { length given.now ≡ length graph.now.pipes }
-    ensures { let flows = given_flows graph.now.pipes (bytes_at given.now) in
+    ensures { let flows = whole_flows graph.now.pipes (bytes_at given.now) in
         IfOk result (λ taken.
         taken ≡ taken_by graph.now.pipes (flow_within wholly graph.now.pipes flows steps) pipe.now) }
 {

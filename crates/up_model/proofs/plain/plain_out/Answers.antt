@@ -1,4 +1,6 @@
-use Rattle.up_model.proofs.PlainLegal.{within_bounds, legal_of_two, output_is_legal, settled_is_legal}
+use Rattle.up_model.proofs.LegalFlows.{wholly_keeps, so_far_keeps}
+use Rattle.up_model.proofs.PlainLegal.{legal_of_two}
+use Rattle.up_model.proofs.WellFormed.{is_pipe}
 use Rattle.up_model.specs.Kinds.{output_of, settled_output}
 use Rattle.up_model.proofs.plain.plain_out.Goals as goal
 
@@ -6,6 +8,6 @@ pub returns-clause-legal : goal.returns-clause-legal
 returns-clause-legal c =
     let kind = c.at.result.now.kind in
     let flow = c.args.flow.now in
-    let within = within_bounds c.args.graph.now.pipes c.args.pipe c.at.result.now c.requires.well_formed c.at.ensures in
+    let within = (is_pipe c.args.graph.now.pipes c.requires.well_formed c.args.pipe c.at.result.now c.at.ensures).kind in
     legal_of_two c.kind_output.result c.args.whole (output_of kind flow) (settled_output kind flow) c.kind_output.ensures.whole c.kind_output.ensures.settled
-    (output_is_legal kind flow within c.requires.legal) (settled_is_legal kind flow within c.requires.legal)
+    (wholly_keeps c.args.pipe kind flow within c.requires.legal) (so_far_keeps c.args.pipe kind flow within c.requires.legal)

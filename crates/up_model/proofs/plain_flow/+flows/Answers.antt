@@ -1,7 +1,7 @@
 use Rattle.std.proofs.Common.{◌≡◌, ◌<◌, Some, slice_get, true, false, refl, rules, arith}
 use Rattle.up_model.proofs.PlainFlows.{source_flow, other_flow, takes_all}
 use Rattle.up_model.specs.Ends.{is_source}
-use Rattle.up_model.specs.Outcomes.{given_flows, bytes_at}
+use Rattle.up_model.specs.Outcomes.{whole_flows, bytes_at}
 use Rattle.up_model.proofs.plain_flow.+flows.Goals as goal
 
 pub flow_within-returns-then-is_source : goal.flow_within-returns-then-is_source
@@ -24,6 +24,6 @@ flow_within-returns t c =
 pub input_within-returns-in-Some : goal.input_within-returns-in-Some
 input_within-returns-in-Some t c =
     let pipes = c.args.graph.now.pipes in
-    let flows = given_flows pipes (bytes_at c.args.given.now) in
+    let flows = whole_flows pipes (bytes_at c.args.given.now) in
     let input : c.args.pipe.now.input ≡ Some c.from.result = search rules in
     rw (input, takes_all pipes flows c.args.steps c.from.result c.args.pipe.now.select) c.flow_within.ensures
