@@ -3,6 +3,9 @@ use Rattle.std.proofs.Common.{◌≡◌, ℕ, zero, suc, ◌+◌, ◌<◌, Bool,
 use Rattle.std.proofs.lemmas.Bool.{cases_Bool}
 use Rattle.std.specs.List.{range_with_len, list_any, filter}
 use Rattle.std.specs.Option.{option_map_or}
+use Rattle.std.proofs.lemmas.List.FromFn.{length-range_with_len}
+use Rattle.std.specs.Prelude.{position}
+use Rattle.std.specs.List.{position_or_len}
 use Rattle.up_model.specs.Inputs.{PipeTest, reached_within}
 use Rattle.up_model.specs.declared.pipe.Pipe.{Pipe}
 
@@ -51,6 +54,19 @@ module _ {X : Type 0} (test : X → Bool) where
         | inl passing ↦ rw passing (ap suc later)
         | inr failing ↦ rw failing later
       ]
+
+  first_later : (x : X) (items : List X) (low count : ℕ)
+      → position_or_len (passes test (x ∷ items)) (range_with_len (low + 1) count) ≡ position_or_len (passes test items) (range_with_len low count)
+  first_later x items low zero = refl
+  first_later x items low (suc count) = rw (next_place x items low, first_later x items (low + 1) count) refl
+
+  first_of_all : (items : List X) → position_or_len (passes test items) (range_with_len 0 (length items)) ≡ position_or_len test items
+  first_of_all [] = refl
+  first_of_all (x ∷ items) = rw (first_later x items 0 (length items), first_of_all items) refl
+
+  -- the first that passes
+  pub position_of_all : (items : List X) → position (passes test items) (range_with_len 0 (length items)) ≡ position test items
+  position_of_all items = rw (first_of_all items, length-range_with_len 0 (length items)) refl
 
 module _ (test : PipeTest) (pipes : List Pipe) (place : ℕ) where
   pub reached-nowhere : (steps : ℕ) → slice_get pipes place ≡ None → reached_within steps test pipes place ≡ None

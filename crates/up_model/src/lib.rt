@@ -60,7 +60,7 @@ pub use limits::{
 };
 pub use lists::{GivenBytes, OutcomeList, PacketList, PipeList, PlaceList};
 pub use opt::Opt;
-pub use outcome::Outcome;
+pub use outcome::{Outcome, deciding};
 pub use packet_laws::packets_stay_legal;
 pub use pipe::{Pipe, default_worker};
 pub use plain::{plain_out, plain_output, plain_sink, plain_source};

@@ -1,4 +1,8 @@
-ghost use Rattle.std.specs.Prelude.{◌≡◌};
+ghost use Rattle.std.specs.Prelude.{◌≡◌, false, slice_get};
+ghost use Rattle.std.specs.Option.{option_map_or};
+ghost use Rattle.up_model.specs.Outcomes.{deciding, is_cause};
+
+use crate::OutcomeList;
 
 /// How a run ended for one pipe.
 #[derive(Clone, Copy, Debug, PartialEq, Eq)]
@@ -41,4 +45,17 @@ impl Outcome {
             Outcome::NoMemory => Outcome::NoMemory,
         }
     }
+}
+
+fn is_cause_at(outcomes: &OutcomeList, place: usize) -> bool
+    ensures { result ≡ option_map_or is_cause (slice_get outcomes.now place) false }
+{
+    place < outcomes.len() && outcomes.at(place).is_cause()
+}
+
+/// The place of the pipe that decides how a run is told: the first in file order with a fault of its own.
+pub fn deciding(outcomes: &OutcomeList) -> Option<usize>
+    ensures { result ≡ deciding outcomes.now }
+{
+    (0..outcomes.len()).position(|place| is_cause_at(outcomes, place))
 }

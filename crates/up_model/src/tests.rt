@@ -1,6 +1,6 @@
 use crate::{
-    CatchSet, DEFAULT_QUEUE, Graph, Kind, PacketList, Pipe, PipeList, PlainAttrs, PlainPacket,
-    Tally, default_worker,
+    CatchSet, DEFAULT_QUEUE, Graph, Kind, Outcome, OutcomeList, PacketList, Pipe, PipeList,
+    PlainAttrs, PlainPacket, Tally, deciding, default_worker,
 };
 use std::test::Fail;
 use up_base::{Bytes, PipeName};
@@ -98,4 +98,62 @@ fn graphs_and_packets_can_cross_threads(rt: HostRuntime) -> Result<(), Fail> {
     })?;
     assert_eq!(rt; sent(packets).len(), 1);
     Ok(())
+}
+
+#[test]
+fn the_first_pipe_with_a_fault_of_its_own_decides(rt: HostRuntime) -> Result<(), Fail> {
+    let alloc = rt.alloc();
+    let mut outcomes = OutcomeList::new(alloc);
+    assert_eq!(rt; deciding(&outcomes), None);
+    for _ in 0..252 {
+        outcomes.push(Outcome::Whole)?;
+    }
+    outcomes.push(Outcome::Broken)?;
+    outcomes.push(Outcome::NoMemory)?;
+    assert_eq!(rt; deciding(&outcomes), None);
+    outcomes.push(Outcome::TooLong { limit: 5 })?;
+    outcomes.push(Outcome::ReadFault)?;
+    assert_eq!(rt; deciding(&outcomes), Some(254));
+    Ok(())
+}
+
+#[test]
+fn a_source_breaks_the_pipes_behind_it(rt: HostRuntime) {
+    for (source, behind) in [
+        (Outcome::Whole, Outcome::Whole),
+        (Outcome::ReadFault, Outcome::Broken),
+        (Outcome::TooLong { limit: 5 }, Outcome::Broken),
+        (Outcome::Broken, Outcome::Broken),
+        (Outcome::NoMemory, Outcome::NoMemory),
+    ] {
+        assert_eq!(rt; source.behind(), behind);
+    }
+}
+
+#[test]
+fn what_a_probe_catches_is_not_counted(rt: HostRuntime) {
+    let sums = Tally {
+        taken: 1,
+        put: 2,
+        dropped: 3,
+        cut: 4,
+        gained: 5,
+        lost: 6,
+    };
+    let caught = CatchSet {
+        drop: true,
+        cut: false,
+        sync: true,
+        lost: false,
+    };
+    let left = Tally {
+        taken: 1,
+        put: 2,
+        dropped: 0,
+        cut: 4,
+        gained: 0,
+        lost: 6,
+    };
+    assert_eq!(rt; sums.uncaught(caught), left);
+    assert_eq!(rt; sums.uncaught(CatchSet::default()), sums);
 }
