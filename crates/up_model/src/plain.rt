@@ -112,7 +112,8 @@ pub fn plain_output(
     match graph.pipes.at(sink).input {
         None => plain_sink(alloc, graph, sink, &PacketList::new(alloc)),
         Some(input) => {
-            let taken = flow_within(alloc, graph, given, graph.pipes.len(), usize::from(input))?;
+            let input = usize::from(input);
+            let taken = flow_within(alloc, graph, given, graph.pipes.len(), input)?;
             plain_sink(alloc, graph, sink, &taken)
         }
     }
