@@ -16,10 +16,10 @@ use Rattle.up_model.specs.declared.kind.Kind.TheVariants.{Source}
 use Rattle.up_model.specs.declared.outcome.Outcome.{Outcome}
 use Rattle.up_model.specs.declared.outcome.Outcome.TheVariants.{Whole, ReadFault, WriteFault, TooLong, Broken, NoMemory}
 
-packets_are_legal : (form : SourceForm) (bytes : List ℕ) → IsSourceForm form → All IsLegal (packets_of form bytes)
+pub packets_are_legal : (form : SourceForm) (bytes : List ℕ) → IsSourceForm form → All IsLegal (packets_of form bytes)
 packets_are_legal (Raw block) bytes form = pieces_are_legal block bytes ((length bytes + block - 1) / block) form.1
 
-whole_packets_are_legal : (form : SourceForm) (bytes : List ℕ) → IsSourceForm form → All IsLegal (whole_packets_of form bytes)
+pub whole_packets_are_legal : (form : SourceForm) (bytes : List ℕ) → IsSourceForm form → All IsLegal (whole_packets_of form bytes)
 whole_packets_are_legal (Raw block) bytes form = pieces_are_legal block bytes (length bytes / block) form.1
 
 pub whole_is_legal : (kind : Kind) (bytes : List ℕ) → IsWithinBounds kind → All IsLegal (whole_flow kind bytes)

@@ -26,6 +26,7 @@ pub mod PacketExamples
 pub mod Packets
 pub mod Packetwise
 pub mod Places
+pub mod PlainExamples
 pub mod PlainFlows
 pub mod PlainKinds
 pub mod PlainLegal

@@ -1,69 +1,93 @@
 -- What the pipe at a place puts out, one step unrolled.
 use Rattle.std.proofs.Common.{◌≡◌, ℕ, zero, suc, ◌<◌, ◌-◌, List, [], true, false, Option, Some, None, slice_get, refl, sym, ap, ◌∙◌, arith}
-use Rattle.std.specs.Prelude.{unwrap_or}
 use Rattle.std.proofs.lemmas.Bool.{false≢true}
 use Rattle.std.specs.Option.{option_map_or}
-use Rattle.up_model.proofs.PlainKinds.{undivided}
-use Rattle.up_model.specs.Ends.{is_source}
-use Rattle.up_model.specs.Kinds.{output_of}
-use Rattle.up_model.specs.Meaning.{wholly, done_by, selected, shared, taken_by, work_at, flow_within}
+use Rattle.std.specs.Prelude.{unwrap_or}
+use Rattle.up_model.proofs.PlainKinds.{shares_all}
+use Rattle.up_model.specs.Ends.{is_source, is_sink}
+use Rattle.up_model.specs.Kinds.{output_of, module_kind}
+use Rattle.up_model.specs.Meaning.{wholly, done_by, selected, shared, taken_by, taken_from, work_at, flow_within}
 use Rattle.up_model.specs.Outcomes.{whole_flow, whole_flows, bytes_at}
 use Rattle.up_model.specs.Packet.{Flow}
 use Rattle.up_model.specs.declared.kind.Kind.{Kind}
-use Rattle.up_model.specs.declared.kind.Kind.TheVariants.{Source}
+use Rattle.up_model.specs.declared.kind.Kind.TheVariants.{Source, Sink}
 use Rattle.up_model.specs.declared.pipe.Pipe.{Pipe}
 
-source_puts : (place : ℕ) (kind : Kind) (own taken : Flow) → is_source kind ≡ true → (done_by wholly place kind own taken).flow ≡ own
-source_puts place (Source path form limit) own taken is = refl
-source_puts place kind own taken is = absurd (false≢true is)
+module _ (place : ℕ) (kind : Kind) (numbers : List ℕ) (own taken : Flow) where
+  source_puts : is_source kind ≡ true → (done_by wholly place (module_kind numbers kind) own taken).flow ≡ own
+  source_puts is = by_kind kind is
+    where
+      by_kind : (kind : Kind) → is_source kind ≡ true → (done_by wholly place (module_kind numbers kind) own taken).flow ≡ own
+      by_kind (Source path form limit) is = refl
+      by_kind kind is = absurd (false≢true is)
 
-other_puts : (place : ℕ) (kind : Kind) (own taken : Flow) → is_source kind ≡ false → (done_by wholly place kind own taken).flow ≡ output_of kind taken
-other_puts place (Source path form limit) own taken is = absurd (cc)
-other_puts place kind own taken is = refl
+  sink_puts : is_sink kind ≡ true → (done_by wholly place (module_kind numbers kind) own taken).flow ≡ []
+  sink_puts is = by_kind kind is
+    where
+      by_kind : (kind : Kind) → is_sink kind ≡ true → (done_by wholly place (module_kind numbers kind) own taken).flow ≡ []
+      by_kind (Sink path form) is = refl
+      by_kind kind is = absurd (false≢true is)
 
--- a share of what nobody puts out is nothing
+  other_puts : is_source kind ≡ false → (done_by wholly place (module_kind numbers kind) own taken).flow ≡ output_of (module_kind numbers kind) taken
+  other_puts is = by_kind kind is
+    where
+      by_kind : (kind : Kind) → is_source kind ≡ false
+          → (done_by wholly place (module_kind numbers kind) own taken).flow ≡ output_of (module_kind numbers kind) taken
+      by_kind (Source path form limit) is = absurd (cc)
+      by_kind kind is = refl
+
+-- of what nobody puts out, all is nothing
 share_all : (input : Option Pipe) (select : Option ℕ) (flow : Flow) → (input ≡ None → flow ≡ []) → shared input select flow ≡ flow
 share_all None select flow nobody = sym (nobody refl)
-share_all (Some input) select flow nobody = (undivided input.kind).whole select flow
+share_all (Some input) select flow nobody = shares_all input.kind select flow
 
 module _ (pipes : List Pipe) (given : ℕ → Flow) where
   nowhere : (steps place : ℕ) → slice_get pipes place ≡ None → flow_within wholly pipes given steps place ≡ []
   nowhere zero place none = refl
   nowhere (suc steps) place none = ap (λ pipe. (work_at wholly pipes given (flow_within wholly pipes given steps) place pipe).flow) none
 
-  -- a pipe takes all that its input puts out
-  pub takes_all : (steps input : ℕ) (select : Option ℕ)
-      → shared (slice_get pipes input) select (flow_within wholly pipes given steps input) ≡ flow_within wholly pipes given steps input
-  takes_all steps input select = share_all (slice_get pipes input) select (flow_within wholly pipes given steps input) (nowhere steps input)
-
   unrolled : (steps place : ℕ) (pipe : Pipe) → slice_get pipes place ≡ Some pipe
-      → flow_within wholly pipes given (suc steps) place ≡ (done_by wholly place pipe.kind (given place) (taken_by pipes (flow_within wholly pipes given steps) pipe)).flow
-  unrolled steps place pipe there =
+      → flow_within wholly pipes given (suc steps) place
+      ≡ (done_by wholly place (module_kind (selected pipes place) pipe.kind) (given place) (taken_by pipes (flow_within wholly pipes given steps) pipe)).flow
+  unrolled steps place pipe there = ap (λ pipe. (work_at wholly pipes given (flow_within wholly pipes given steps) place pipe).flow) there
+
+  -- a pipe takes all that its input puts out
+  pub takes_all : (steps input : ℕ) (pipe : Pipe) → pipe.input ≡ Some input
+      → flow_within wholly pipes given steps input ≡ taken_by pipes (flow_within wholly pipes given steps) pipe
+  takes_all steps input pipe from =
       let flows = flow_within wholly pipes given steps in
-      ap (λ pipe. (work_at wholly pipes given flows place pipe).flow) there
-      ∙ ap (λ kind. (done_by wholly place kind (given place) (taken_by pipes flows pipe)).flow) ((undivided pipe.kind).own (selected pipes place))
+      sym (ap (taken_from pipes flows pipe.select) from ∙ share_all (slice_get pipes input) pipe.select (flows input) (nowhere steps input))
 
-module _ (pipes : List Pipe) (given : List (List ℕ)) (steps place : ℕ) (pipe : Pipe) (some : 0 < steps) (there : slice_get pipes place ≡ Some pipe) where
-  one_less : steps ≡ suc (steps - 1)
-  one_less = omega arith
+  -- one without an input takes nothing
+  pub takes_nothing : (steps : ℕ) (pipe : Pipe) → pipe.input ≡ None → [] ≡ taken_by pipes (flow_within wholly pipes given steps) pipe
+  takes_nothing steps pipe from = sym (ap (taken_from pipes (flow_within wholly pipes given steps) pipe.select) from)
 
-  -- a source puts out the packets of its bytes
-  pub source_flow : (bytes : List ℕ) → slice_get given place ≡ Some bytes → is_source pipe.kind ≡ true
-      → flow_within wholly pipes (whole_flows pipes (bytes_at given)) steps place ≡ whole_flow pipe.kind bytes
-  source_flow bytes are is =
-      let flows = whole_flows pipes (bytes_at given) in
-      ap (λ steps. flow_within wholly pipes flows steps place) one_less
-      ∙ unrolled pipes flows (steps - 1) place pipe there
-      ∙ source_puts place pipe.kind (flows place) (taken_by pipes (flow_within wholly pipes flows (steps - 1)) pipe) is
-      ∙ ap (λ found. option_map_or (λ (pipe : Pipe). whole_flow pipe.kind (bytes_at given place)) found []) there
-      ∙ ap (λ found. whole_flow pipe.kind (unwrap_or found [])) are
+module _ (pipes : List Pipe) (given : ℕ → Flow) (steps place : ℕ) (pipe : Pipe) (some : 0 < steps) (there : slice_get pipes place ≡ Some pipe) where
+  one_step : flow_within wholly pipes given steps place
+      ≡ (done_by wholly place (module_kind (selected pipes place) pipe.kind) (given place) (taken_by pipes (flow_within wholly pipes given (steps - 1)) pipe)).flow
+  one_step =
+      let one_less : steps ≡ suc (steps - 1) = omega arith in
+      ap (λ steps. flow_within wholly pipes given steps place) one_less ∙ unrolled pipes given (steps - 1) place pipe there
 
-  -- any other pipe puts out what its kind makes of what it takes
-  pub other_flow : is_source pipe.kind ≡ false
-      → flow_within wholly pipes (whole_flows pipes (bytes_at given)) steps place
-      ≡ output_of pipe.kind (taken_by pipes (flow_within wholly pipes (whole_flows pipes (bytes_at given)) (steps - 1)) pipe)
-  other_flow is =
-      let flows = whole_flows pipes (bytes_at given) in
-      ap (λ steps. flow_within wholly pipes flows steps place) one_less
-      ∙ unrolled pipes flows (steps - 1) place pipe there
-      ∙ other_puts place pipe.kind (flows place) (taken_by pipes (flow_within wholly pipes flows (steps - 1)) pipe) is
+  -- a source puts out what it is given
+  pub source_flow : is_source pipe.kind ≡ true → flow_within wholly pipes given steps place ≡ given place
+  source_flow is = one_step ∙ source_puts place pipe.kind (selected pipes place) (given place) _ is
+
+  -- a sink nothing
+  pub sink_flow : is_sink pipe.kind ≡ true → flow_within wholly pipes given steps place ≡ []
+  sink_flow is = one_step ∙ sink_puts place pipe.kind (selected pipes place) (given place) _ is
+
+  -- any other pipe what its module makes of what it takes
+  pub other_flow : (taken : Flow) → is_source pipe.kind ≡ false → taken ≡ taken_by pipes (flow_within wholly pipes given (steps - 1)) pipe
+      → flow_within wholly pipes given steps place ≡ output_of (module_kind (selected pipes place) pipe.kind) taken
+  other_flow taken is takes =
+      one_step
+      ∙ other_puts place pipe.kind (selected pipes place) (given place) _ is
+      ∙ ap (output_of (module_kind (selected pipes place) pipe.kind)) (sym takes)
+
+-- a source is given the packets of its bytes
+pub given_source : (pipes : List Pipe) (given : List (List ℕ)) (place : ℕ) (pipe : Pipe) (bytes : List ℕ) → slice_get pipes place ≡ Some pipe
+    → slice_get given place ≡ Some bytes → whole_flows pipes (bytes_at given) place ≡ whole_flow pipe.kind bytes
+given_source pipes given place pipe bytes there are =
+    ap (λ found. option_map_or (λ (pipe : Pipe). whole_flow pipe.kind (bytes_at given place)) found []) there
+    ∙ ap (λ found. whole_flow pipe.kind (unwrap_or found [])) are

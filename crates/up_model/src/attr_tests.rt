@@ -5,7 +5,7 @@ use std::test::Fail;
 use up_base::{AttrName, Bytes, Text};
 
 /// The value that is lent is the wanted one.
-fn assert_seen(rt: &impl Abort, seen: ValueView<'_>, wanted: ValueView<'_>) {
+pub(crate) fn assert_seen(rt: &impl Abort, seen: ValueView<'_>, wanted: ValueView<'_>) {
     match (seen, wanted) {
         (ValueView::Void, ValueView::Void) => {}
         (ValueView::Flag(flag), ValueView::Flag(other)) => assert_eq!(rt; flag, other),
@@ -38,7 +38,7 @@ fn each_value_is_seen_as_it_was_given(rt: HostRuntime) -> Result<(), Fail> {
 }
 
 /// The attribute has this number.
-fn assert_number(rt: &impl Abort, attrs: &PlainAttrs, name: &AttrName, wanted: u64) {
+pub(crate) fn assert_number(rt: &impl Abort, attrs: &PlainAttrs, name: &AttrName, wanted: u64) {
     match attrs.get(name) {
         Some(value) => assert_seen(rt, value, ValueView::Unsigned(wanted)),
         None => assert!(rt; false, "no such attribute"),

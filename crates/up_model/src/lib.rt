@@ -28,6 +28,8 @@ mod plain_ends;
 mod plain_flow;
 mod plain_kinds;
 mod plain_packet;
+#[cfg(test)]
+mod plain_packet_tests;
 mod plain_step;
 #[cfg(test)]
 mod plain_tests;

@@ -13,6 +13,5 @@ pub type PacketList = ItemList<PlainPacket>;
 /// Places of pipes. No contract cites them yet: plans of graphs will.
 pub type PlaceList = ItemList<u16>;
 
-/// The bytes that each pipe's source could give: one entry a pipe, empty for one that is no source. No contract cites
-/// them yet: the slow meaning of trees will.
+/// The bytes that each pipe's source could give: one entry a pipe, of which those of sources count.
 pub type GivenBytes = ItemList<Bytes>;

@@ -8,10 +8,11 @@ ghost use Rattle.up_model.specs.Outcomes.{whole_flow, flow_so_far, whole_flows, 
 ghost use Rattle.up_model.specs.Packet.{IsLegal};
 ghost use Rattle.up_model.specs.WellFormed.{IsWellFormed};
 
-use crate::plain_ends::{kind_bytes, kind_packets};
-use crate::plain_flow::input_within;
-use crate::plain_kinds::kind_output;
-use crate::{GivenBytes, Graph, PacketList};
+use crate::plain_ends::{form_bytes, form_packets};
+use crate::plain_flow::flow_within;
+use crate::plain_kinds::{DropsAll, PassesOn, Skips, TakesAway};
+use crate::plain_step::passed;
+use crate::{GivenBytes, Graph, Kind, PacketList};
 use std::alloc::Global;
 use up_base::{Bytes, NoMemory};
 
@@ -31,7 +32,15 @@ pub fn plain_source(
         IfSome (slice_get graph.now.pipes pipe) (λ own. packets ≡ flow_so_far own.kind bytes.now)) }
     ensures legal { IfOk result (All IsLegal) }
 {
-    kind_packets(alloc, &graph.pipes.at(pipe).kind, bytes, whole)
+    match &graph.pipes.at(pipe).kind {
+        Kind::Source { form, .. } => form_packets(alloc, *form, bytes, whole),
+        Kind::Sink { .. }
+        | Kind::Idem
+        | Kind::Null
+        | Kind::Dup
+        | Kind::Skip { .. }
+        | Kind::DelAttr { .. } => Ok(PacketList::new(alloc)),
+    }
 }
 
 /// What the pipe at a place puts out for a flow, where this is all of it or where more may come.
@@ -53,7 +62,14 @@ pub fn plain_out(
         put ≡ settled_output (module_kind (selected graph.now.pipes pipe) own.kind) flow.now)) }
     ensures legal { IfOk result (All IsLegal) }
 {
-    kind_output(alloc, &graph.pipes.at(pipe).kind, flow, whole)
+    match &graph.pipes.at(pipe).kind {
+        Kind::Source { .. } | Kind::Sink { .. } => Ok(PacketList::new(alloc)),
+        Kind::Idem => passed(alloc, &PassesOn, flow),
+        Kind::Null => passed(alloc, &DropsAll, flow),
+        Kind::Dup => passed(alloc, &PassesOn, flow),
+        Kind::Skip { bytes } => passed(alloc, &Skips { count: *bytes }, flow),
+        Kind::DelAttr { attr } => passed(alloc, &TakesAway { attr: *attr }, flow),
+    }
 }
 
 /// The bytes that the sink at a place writes of a flow.
@@ -69,7 +85,15 @@ pub fn plain_sink(
     ensures { IfOk result (λ bytes.
         IfSome (slice_get graph.now.pipes sink) (λ own. bytes ≡ written_of own.kind flow.now)) }
 {
-    kind_bytes(alloc, &graph.pipes.at(sink).kind, flow)
+    match &graph.pipes.at(sink).kind {
+        Kind::Sink { form, .. } => form_bytes(alloc, *form, flow),
+        Kind::Source { .. }
+        | Kind::Idem
+        | Kind::Null
+        | Kind::Dup
+        | Kind::Skip { .. }
+        | Kind::DelAttr { .. } => Ok(Bytes::new(alloc)),
+    }
 }
 
 /// The bytes that the sink at a place is to hold, by the bytes of each source.
@@ -85,7 +109,12 @@ pub fn plain_output(
     ensures { IfOk result (λ bytes. IfSome (slice_get graph.now.pipes sink) (λ own.
         bytes ≡ sink_bytes graph.now.pipes (whole_flows graph.now.pipes (bytes_at given.now)) own)) }
 {
-    let own = graph.pipes.at(sink);
-    let taken = input_within(alloc, graph, given, graph.pipes.len(), own)?;
-    kind_bytes(alloc, &own.kind, &taken)
+    match graph.pipes.at(sink).input {
+        None => plain_sink(alloc, graph, sink, &PacketList::new(alloc)),
+        Some(input) => {
+            let input = usize::from(input);
+            let taken = flow_within(alloc, graph, given, graph.pipes.len(), input)?;
+            plain_sink(alloc, graph, sink, &taken)
+        }
+    }
 }

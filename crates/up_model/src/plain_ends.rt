@@ -1,12 +1,11 @@
-// What the ends of a graph read and write, by their definitions.
+// What the forms of sources and sinks make of bytes and packets.
 ghost use Rattle.std.specs.Prelude.{◌≡◌, ◌+◌, ◌*◌, ◌<◌, ◌≤◌, length, true, false, IfOk};
 ghost use Rattle.up_model.specs.Cutting.{piece, pieces};
 ghost use Rattle.up_model.specs.Ends.{IsSourceForm, written_by};
-ghost use Rattle.up_model.specs.Kinds.{IsWithinBounds, written_of};
-ghost use Rattle.up_model.specs.Outcomes.{packets_of, whole_packets_of, whole_flow, flow_so_far};
+ghost use Rattle.up_model.specs.Outcomes.{packets_of, whole_packets_of};
 ghost use Rattle.up_model.specs.Packet.{joined};
 
-use crate::{Kind, PacketList, PlainPacket, SinkForm, SourceForm};
+use crate::{PacketList, PlainPacket, SinkForm, SourceForm};
 use std::alloc::Global;
 use up_base::{Bytes, NoMemory};
 
@@ -33,7 +32,7 @@ fn pieces(alloc: Global, size: usize, bytes: &[u8], count: usize) -> Result<Pack
 }
 
 /// The packets that bytes of the form hold, where these are all of them or where more may come.
-fn form_packets(
+pub(crate) fn form_packets(
     alloc: Global,
     form: SourceForm,
     bytes: &[u8],
@@ -56,29 +55,6 @@ fn form_packets(
     }
 }
 
-/// The packets of a source of the kind, where these are all of its bytes or where more may come.
-pub(crate) fn kind_packets(
-    alloc: Global,
-    kind: &Kind,
-    bytes: &[u8],
-    whole: bool,
-) -> Result<PacketList, NoMemory>
-    requires { IsWithinBounds kind.now }
-    ensures whole { whole ≡ true → IfOk result (λ packets. packets ≡ whole_flow kind.now bytes.now) }
-    ensures so_far { whole ≡ false
-        → IfOk result (λ packets. packets ≡ flow_so_far kind.now bytes.now) }
-{
-    match kind {
-        Kind::Source { form, .. } => form_packets(alloc, *form, bytes, whole),
-        Kind::Sink { .. }
-        | Kind::Idem
-        | Kind::Null
-        | Kind::Dup
-        | Kind::Skip { .. }
-        | Kind::DelAttr { .. } => Ok(PacketList::new(alloc)),
-    }
-}
-
 /// The bytes of the packets, one after the other.
 fn joined(alloc: Global, flow: &PacketList) -> Result<Bytes, NoMemory>
     ensures { IfOk result (λ bytes. bytes ≡ joined flow.now) }
@@ -91,25 +67,14 @@ fn joined(alloc: Global, flow: &PacketList) -> Result<Bytes, NoMemory>
 }
 
 /// The bytes that a sink of the form writes of a flow.
-fn form_bytes(alloc: Global, form: SinkForm, flow: &PacketList) -> Result<Bytes, NoMemory>
+pub(crate) fn form_bytes(
+    alloc: Global,
+    form: SinkForm,
+    flow: &PacketList,
+) -> Result<Bytes, NoMemory>
     ensures { IfOk result (λ bytes. bytes ≡ written_by form flow.now) }
 {
     match form {
         SinkForm::Raw => joined(alloc, flow),
-    }
-}
-
-/// The bytes that a pipe of the kind writes of a flow.
-pub(crate) fn kind_bytes(alloc: Global, kind: &Kind, flow: &PacketList) -> Result<Bytes, NoMemory>
-    ensures { IfOk result (λ bytes. bytes ≡ written_of kind.now flow.now) }
-{
-    match kind {
-        Kind::Sink { form, .. } => form_bytes(alloc, *form, flow),
-        Kind::Source { .. }
-        | Kind::Idem
-        | Kind::Null
-        | Kind::Dup
-        | Kind::Skip { .. }
-        | Kind::DelAttr { .. } => Ok(Bytes::new(alloc)),
     }
 }

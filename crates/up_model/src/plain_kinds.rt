@@ -1,17 +1,15 @@
-// What each kind of pipe puts out, by its definition.
-ghost use Rattle.std.specs.Prelude.{◌≡◌, true, false, IfOk};
+// What each kind that looks at each packet by itself does with a packet.
 ghost use Rattle.up_model.specs.DelAttr.{delattr_step};
-ghost use Rattle.up_model.specs.Kinds.{output_of, settled_output};
 ghost use Rattle.up_model.specs.Packetwise.{passes_on, drops};
 ghost use Rattle.up_model.specs.Skip.{skip_step};
 
-use crate::plain_step::{PlainStep, passed};
-use crate::{Kind, PacketList, PlainPacket, Verdict};
+use crate::plain_step::PlainStep;
+use crate::{PlainPacket, Verdict};
 use std::alloc::Global;
 use up_base::{AttrName, Bytes, NoMemory};
 
 /// What `idem` and `dup` do.
-struct PassesOn;
+pub(crate) struct PassesOn;
 
 impl PlainStep for PassesOn {
     ghost step = { λ _. passes_on };
@@ -29,7 +27,7 @@ impl PlainStep for PassesOn {
 }
 
 /// What `null` does.
-struct DropsAll;
+pub(crate) struct DropsAll;
 
 impl PlainStep for DropsAll {
     ghost step = { λ _. drops };
@@ -45,8 +43,8 @@ impl PlainStep for DropsAll {
 
 /// What `skip` does.
 #[derive(Drop)]
-struct Skips {
-    count: u32,
+pub(crate) struct Skips {
+    pub(crate) count: u32,
 }
 
 impl PlainStep for Skips {
@@ -74,8 +72,8 @@ impl PlainStep for Skips {
 
 /// What `delattr` does.
 #[derive(Drop)]
-struct TakesAway {
-    attr: AttrName,
+pub(crate) struct TakesAway {
+    pub(crate) attr: AttrName,
 }
 
 impl PlainStep for TakesAway {
@@ -89,24 +87,5 @@ impl PlainStep for TakesAway {
         let mut packet = packet.copy(alloc)?;
         packet.attrs.remove(&self.attr);
         Ok(Verdict::Passes { packet, cut: 0 })
-    }
-}
-
-/// What a pipe of the kind puts out for a flow, where this is all of it or where more may come.
-pub(crate) fn kind_output(
-    alloc: Global,
-    kind: &Kind,
-    flow: &PacketList,
-    whole: bool,
-) -> Result<PacketList, NoMemory>
-    ensures whole { whole ≡ true → IfOk result (λ put. put ≡ output_of kind.now flow.now) }
-    ensures settled { whole ≡ false → IfOk result (λ put. put ≡ settled_output kind.now flow.now) }
-{
-    match kind {
-        Kind::Source { .. } | Kind::Sink { .. } => Ok(PacketList::new(alloc)),
-        Kind::Idem | Kind::Dup => passed(alloc, &PassesOn, flow),
-        Kind::Null => passed(alloc, &DropsAll, flow),
-        Kind::Skip { bytes } => passed(alloc, &Skips { count: *bytes }, flow),
-        Kind::DelAttr { attr } => passed(alloc, &TakesAway { attr: *attr }, flow),
     }
 }
