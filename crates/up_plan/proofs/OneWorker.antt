@@ -38,7 +38,7 @@ not_false false is = cc
 
 module _ (pipes : List Pipe) where
   -- the pipe at a place runs on this worker where the place's worker is this
-  pub runs_on_its_worker : (place : ℕ) (worker : List ℕ) → place < length pipes → worker_at pipes place ≡ worker → passes_at (runs_on worker) pipes place ≡ true
+  runs_on_its_worker : (place : ℕ) (worker : List ℕ) → place < length pipes → worker_at pipes place ≡ worker → passes_at (runs_on worker) pipes place ≡ true
   runs_on_its_worker place worker within is = elim (slice_get_cases pipes place).1 [
     | inl there ↦
         let same : there.0.worker ≡ worker = rw there.2 at is in
@@ -46,7 +46,7 @@ module _ (pipes : List Pipe) where
     | inr past ↦ absurd (omega (arith, past.0))
   ]
 
-  pub worker_that_runs : (place : ℕ) (worker : List ℕ) → passes_at (runs_on worker) pipes place ≡ true → worker_at pipes place ≡ worker
+  worker_that_runs : (place : ℕ) (worker : List ℕ) → passes_at (runs_on worker) pipes place ≡ true → worker_at pipes place ≡ worker
   worker_that_runs place worker runs = elim (slice_get_cases pipes place).1 [
     | inl there ↦
         let same : bytes_eq there.0.worker worker ≡ true = rw there.2 at runs in
