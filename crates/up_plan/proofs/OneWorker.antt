@@ -1,15 +1,14 @@
 -- Every worker has one first pipe, and a strand is on one worker.
-use Rattle.std.proofs.Common.{◌≡◌, ℕ, zero, suc, ◌+◌, ◌<◌, ◌≤◌, ◌⊎◌, List, [], ◌∷◌, length, take, Some, None, slice_get, Bool, true, false, ◌||◌, refl, ap, ◌∙◌, sym, arith, inl, inr}
+use Rattle.std.proofs.Common.{◌≡◌, ℕ, zero, suc, ◌<◌, List, [], ◌∷◌, length, take, Bool, true, false, refl, ◌∙◌, sym, arith, inl, inr}
 use Rattle.std.proofs.lemmas.Bool.{cases_Bool}
 use Rattle.std.proofs.lemmas.Option.{slice_get_cases}
 use Rattle.std.proofs.lemmas.Slice.Eq.{bytes_eq-Decides}
 use Rattle.std.specs.List.{Contains, list_any}
-use Rattle.std.specs.Option.{option_map_or}
 use Rattle.std.specs.Prelude.{not}
 use Rattle.std.specs.Str.{bytes_eq}
 use Rattle.up_model.specs.Inputs.{passes_at, places}
-use Rattle.up_model.specs.Plans.{is_head, heads, runs_on, heads_on}
-use Rattle.up_model.specs.WellFormed.{is_first_of_worker, worker_places}
+use Rattle.up_model.specs.Plans.{is_head, heads, runs_on}
+use Rattle.up_model.specs.WellFormed.{is_first_of_worker}
 use Rattle.up_model.specs.declared.pipe.Pipe.{Pipe}
 use Rattle.up_plan.proofs.Members.{filter_has, kept_passes, passes_within, passing_places_have}
 use Rattle.up_plan.proofs.Places.{any_before-true}

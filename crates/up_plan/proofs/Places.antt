@@ -1,18 +1,18 @@
 -- Lists of places.
-use Rattle.std.proofs.Common.{◌≡◌, ℕ, zero, suc, ◌+◌, ◌-◌, ◌<◌, ◌≤◌, List, [], ◌∷◌, ◌++◌, length, map, take, get_or, Option, Some, None, slice_get, Bool, true, false, ◌||◌, ◌==◌, refl, ap, ◌∙◌, sym, arith, inl, inr, add-one}
+use Rattle.std.proofs.Common.{◌≡◌, ℕ, zero, suc, ◌+◌, ◌<◌, ◌≤◌, List, [], ◌∷◌, ◌++◌, length, map, take, Bool, true, false, ◌||◌, ◌==◌, refl, ap, ◌∙◌, sym, arith, inl, inr, add-one}
 use Rattle.std.proofs.lemmas.List.Elements.{filter-append, filter_agree}
-use Rattle.std.proofs.lemmas.List.Folds.{list_any_more, list_any_kept}
+use Rattle.std.proofs.lemmas.List.Folds.{list_any_more}
 use Rattle.std.proofs.lemmas.List.FromFn.{length-map-range_with_len, get_or-map-range_with_len}
 use Rattle.std.proofs.lemmas.List.{map-append}
-use Rattle.std.proofs.lemmas.Option.{slice_get-get_or, slice_get_past, slice_get_cases}
+use Rattle.std.proofs.lemmas.Option.{slice_get_past, slice_get_cases}
 use Rattle.std.specs.List.{filter, list_any, range_with_len}
-use Rattle.std.specs.Option.{option_and_then, option_map_or}
+use Rattle.std.specs.Option.{option_map_or}
 use Rattle.std.specs.Str.{bytes_eq}
 use Rattle.up_model.proofs.Places.{reached-nowhere}
-use Rattle.up_model.specs.Inputs.{passes_at, places, reached_within}
+use Rattle.up_model.specs.Inputs.{passes_at, places}
 use Rattle.up_model.specs.Plans as plans
 use Rattle.up_model.specs.declared.pipe.Pipe.{Pipe}
-use Rattle.up_plan.specs.Plan.{has_head, head_of_each, plan_strand}
+use Rattle.up_plan.specs.Plan.{has_head, head_of_each}
 
 -- one number more at the end
 range_with_len-suc : (a n j : ℕ) → a + n ≡ j → range_with_len a (suc n) ≡ range_with_len a n ++ j ∷ []
