@@ -1,12 +1,12 @@
 -- How many lanes there are, and where each comes from.
-use Rattle.std.proofs.Common.{◌≡◌, ◌≢◌, ℕ, ◌+◌, ◌<◌, List, [], ◌∷◌, length, Option, Some, None, slice_get, Bool, true, false, ◌&&◌, ◌||◌, refl, ap, ◌∙◌, sym, arith, cond, inl, inr, count_by}
+use Rattle.std.proofs.Common.{◌≡◌, ◌≢◌, ℕ, ◌+◌, List, [], ◌∷◌, length, Option, Some, None, slice_get, Bool, true, false, ◌&&◌, ◌||◌, refl, ap, ◌∙◌, arith, inl, inr, count_by}
 use Rattle.std.proofs.lemmas.Bool.{cases_Bool}
 use Rattle.std.proofs.lemmas.List.Filters.{length-filter_both}
 use Rattle.std.proofs.lemmas.List.Sums.{length-filter}
 use Rattle.std.proofs.lemmas.Option.{slice_get_cases}
 use Rattle.std.proofs.lemmas.Slice.Eq.{bytes_eq-Decides}
 use Rattle.std.specs.List.{Contains, filter}
-use Rattle.std.specs.Option.{option_map_or, option_and_then}
+use Rattle.std.specs.Option.{option_map_or}
 use Rattle.std.specs.Prelude.{not}
 use Rattle.std.specs.Str.{bytes_eq}
 use Rattle.up_model.proofs.Places.{count_of_all}
@@ -15,7 +15,7 @@ use Rattle.up_model.specs.Inputs.{passes_at, places}
 use Rattle.up_model.specs.Plans.{is_head, heads, is_fed, lanes, changes_worker}
 use Rattle.up_model.specs.declared.pipe.Pipe.{Pipe}
 use Rattle.up_plan.proofs.Members.{kept_passes, kept_was_there}
-use Rattle.up_plan.specs.Laws.{ComesFromElsewhere, input_at}
+use Rattle.up_plan.specs.Laws.{ComesFromElsewhere}
 use Rattle.up_plan.specs.Plan.{worker_at}
 
 -- to keep by one test and then by another is to keep by both

@@ -1,21 +1,19 @@
 -- Every pipe is in one strand, and a strand is joined by its inputs and runs on one worker.
-use Rattle.std.proofs.Common.{◌≡◌, ◌≢◌, ℕ, zero, suc, ◌+◌, ◌-◌, ◌<◌, ◌==◌, List, [], ◌∷◌, length, Option, Some, None, slice_get, Bool, true, false, ◌||◌, refl, ap, ◌∙◌, sym, arith, inl, inr, eq-eqb}
+use Rattle.std.proofs.Common.{◌≡◌, ◌≢◌, ℕ, zero, suc, ◌<◌, ◌==◌, List, length, Option, Some, None, Bool, true, false, ◌||◌, refl, ap, sym, arith, inl, inr, eq-eqb}
 use Rattle.std.proofs.lemmas.Bool.Decides.{Decides-eqb}
-use Rattle.std.proofs.lemmas.Option.{slice_get_cases, slice_get_within}
+use Rattle.std.proofs.lemmas.Option.{slice_get_cases}
 use Rattle.std.proofs.lemmas.Bool.{cases_Bool}
 use Rattle.std.proofs.lemmas.Slice.Eq.{bytes_eq-Decides}
 use Rattle.std.specs.Str.{bytes_eq}
-use Rattle.std.specs.List.{Contains, position}
-use Rattle.std.specs.Option.{option_map_or, option_or, is_some}
-use Rattle.std.specs.Prelude.{option_map, not}
+use Rattle.std.specs.List.{Contains}
+use Rattle.std.specs.Option.{option_map_or}
+use Rattle.std.specs.Prelude.{not}
 use Rattle.up_model.specs.Ends.{is_source}
-use Rattle.up_model.specs.Inputs.{PipeTest, passes_at, places, first_place, reached_within, ends_at_source, source_of}
+use Rattle.up_model.specs.Inputs.{passes_at, places, reached_within}
 use Rattle.up_model.specs.Plans.{is_head, heads, head_of, strand_of, changes_worker}
-use Rattle.up_model.specs.WellFormed.{IsWellFormed, has_cycle, graph_fault, first_of}
-use Rattle.up_model.specs.declared.graph_fault.GraphFault.{GraphFault}
 use Rattle.up_model.specs.declared.pipe.Pipe.{Pipe}
 use Rattle.up_plan.proofs.Members.{filter_has, kept_passes, places_have, passes_within, passing_places_have}
-use Rattle.up_plan.proofs.Ways.{reached_step, way_ends, way_cases, way_reaches, way_longer, way_within, way_keeps, way_weaker}
+use Rattle.up_plan.proofs.Ways.{way_ends, way_cases, way_reaches, way_longer, way_within, way_keeps}
 use Rattle.up_plan.specs.Laws.{IsInOneStrand, IsFedWithin, input_at}
 use Rattle.up_plan.specs.Plan.{worker_at}
 

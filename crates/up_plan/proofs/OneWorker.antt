@@ -1,15 +1,14 @@
 -- Every worker has one first pipe, and a strand is on one worker.
-use Rattle.std.proofs.Common.{◌≡◌, ℕ, zero, suc, ◌+◌, ◌<◌, ◌≤◌, ◌⊎◌, List, [], ◌∷◌, length, take, Some, None, slice_get, Bool, true, false, ◌||◌, refl, ap, ◌∙◌, sym, arith, inl, inr}
+use Rattle.std.proofs.Common.{◌≡◌, ℕ, zero, suc, ◌<◌, List, [], ◌∷◌, length, take, Bool, true, false, refl, ◌∙◌, sym, arith, inl, inr}
 use Rattle.std.proofs.lemmas.Bool.{cases_Bool}
 use Rattle.std.proofs.lemmas.Option.{slice_get_cases}
 use Rattle.std.proofs.lemmas.Slice.Eq.{bytes_eq-Decides}
 use Rattle.std.specs.List.{Contains, list_any}
-use Rattle.std.specs.Option.{option_map_or}
 use Rattle.std.specs.Prelude.{not}
 use Rattle.std.specs.Str.{bytes_eq}
 use Rattle.up_model.specs.Inputs.{passes_at, places}
-use Rattle.up_model.specs.Plans.{is_head, heads, runs_on, heads_on}
-use Rattle.up_model.specs.WellFormed.{is_first_of_worker, worker_places}
+use Rattle.up_model.specs.Plans.{is_head, heads, runs_on}
+use Rattle.up_model.specs.WellFormed.{is_first_of_worker}
 use Rattle.up_model.specs.declared.pipe.Pipe.{Pipe}
 use Rattle.up_plan.proofs.Members.{filter_has, kept_passes, passes_within, passing_places_have}
 use Rattle.up_plan.proofs.Places.{any_before-true}
@@ -38,7 +37,7 @@ not_false false is = cc
 
 module _ (pipes : List Pipe) where
   -- the pipe at a place runs on this worker where the place's worker is this
-  pub runs_on_its_worker : (place : ℕ) (worker : List ℕ) → place < length pipes → worker_at pipes place ≡ worker → passes_at (runs_on worker) pipes place ≡ true
+  runs_on_its_worker : (place : ℕ) (worker : List ℕ) → place < length pipes → worker_at pipes place ≡ worker → passes_at (runs_on worker) pipes place ≡ true
   runs_on_its_worker place worker within is = elim (slice_get_cases pipes place).1 [
     | inl there ↦
         let same : there.0.worker ≡ worker = rw there.2 at is in
@@ -46,7 +45,7 @@ module _ (pipes : List Pipe) where
     | inr past ↦ absurd (omega (arith, past.0))
   ]
 
-  pub worker_that_runs : (place : ℕ) (worker : List ℕ) → passes_at (runs_on worker) pipes place ≡ true → worker_at pipes place ≡ worker
+  worker_that_runs : (place : ℕ) (worker : List ℕ) → passes_at (runs_on worker) pipes place ≡ true → worker_at pipes place ≡ worker
   worker_that_runs place worker runs = elim (slice_get_cases pipes place).1 [
     | inl there ↦
         let same : bytes_eq there.0.worker worker ≡ true = rw there.2 at runs in

@@ -1,18 +1,18 @@
 -- Lists of places.
-use Rattle.std.proofs.Common.{◌≡◌, ℕ, zero, suc, ◌+◌, ◌-◌, ◌<◌, ◌≤◌, List, [], ◌∷◌, ◌++◌, length, map, take, get_or, Option, Some, None, slice_get, Bool, true, false, ◌||◌, ◌==◌, refl, ap, ◌∙◌, sym, arith, inl, inr, add-one}
+use Rattle.std.proofs.Common.{◌≡◌, ℕ, zero, suc, ◌+◌, ◌<◌, ◌≤◌, List, [], ◌∷◌, ◌++◌, length, map, take, Bool, true, false, ◌||◌, ◌==◌, refl, ap, ◌∙◌, sym, arith, inl, inr, add-one}
 use Rattle.std.proofs.lemmas.List.Elements.{filter-append, filter_agree}
-use Rattle.std.proofs.lemmas.List.Folds.{list_any_more, list_any_kept}
+use Rattle.std.proofs.lemmas.List.Folds.{list_any_more}
 use Rattle.std.proofs.lemmas.List.FromFn.{length-map-range_with_len, get_or-map-range_with_len}
 use Rattle.std.proofs.lemmas.List.{map-append}
-use Rattle.std.proofs.lemmas.Option.{slice_get-get_or, slice_get_past, slice_get_cases}
+use Rattle.std.proofs.lemmas.Option.{slice_get_past, slice_get_cases}
 use Rattle.std.specs.List.{filter, list_any, range_with_len}
-use Rattle.std.specs.Option.{option_and_then, option_map_or}
+use Rattle.std.specs.Option.{option_map_or}
 use Rattle.std.specs.Str.{bytes_eq}
-use Rattle.up_model.specs.Inputs.{passes_at, places, reached_within}
+use Rattle.up_model.proofs.Places.{reached-nowhere}
+use Rattle.up_model.specs.Inputs.{passes_at, places}
 use Rattle.up_model.specs.Plans as plans
 use Rattle.up_model.specs.declared.pipe.Pipe.{Pipe}
-use Rattle.up_plan.proofs.Ways.{way_outside}
-use Rattle.up_plan.specs.Plan.{has_head, head_of_each, plan_strand}
+use Rattle.up_plan.specs.Plan.{has_head, head_of_each}
 
 -- one number more at the end
 range_with_len-suc : (a n j : ℕ) → a + n ≡ j → range_with_len a (suc n) ≡ range_with_len a n ++ j ∷ []
@@ -53,7 +53,7 @@ any_before-more pipes worker place within none other =
     ]
 
 -- who has a head, by the head of each
-pub has_head-each : (pipes : List Pipe) (head place : ℕ)
+has_head-each : (pipes : List Pipe) (head place : ℕ)
     → has_head (head_of_each pipes) head place ≡ option_map_or (λ own. own == head) (plans.head_of pipes place) false
 has_head-each pipes head place =
     elim (slice_get_cases (head_of_each pipes) place).1 [
@@ -64,7 +64,7 @@ has_head-each pipes head place =
           rw there.2 (ap (λ own. option_map_or (λ own. own == head) own false) own)
       | inr past ↦
           let outside : length pipes ≤ place = omega (arith, past.0, length-map-range_with_len (plans.head_of pipes) 0 (length pipes)) in
-          rw (past.1, way_outside plans.is_head pipes (length pipes) place (slice_get_past pipes place outside)) refl
+          rw (past.1, reached-nowhere plans.is_head pipes place (length pipes) (slice_get_past pipes place outside)) refl
     ]
 
 pub strand-of_each : (pipes : List Pipe) (head : ℕ)

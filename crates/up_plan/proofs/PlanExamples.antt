@@ -9,7 +9,7 @@ use Rattle.up_model.specs.declared.form.SourceForm.TheVariants as source_forms
 use Rattle.up_model.specs.declared.kind.Kind.{Kind}
 use Rattle.up_model.specs.declared.kind.Kind.TheVariants.{Source, Sink, Idem, Dup}
 use Rattle.up_model.specs.declared.pipe.Pipe.{Pipe}
-use Rattle.up_plan.specs.Plan.{worker_at, plan_of}
+use Rattle.up_plan.specs.Plan.{plan_of}
 
 abbrev pipe : Kind → List ℕ → Option ℕ → Pipe
 pipe kind worker input = record {

@@ -1,8 +1,9 @@
 -- Ways along inputs.
-use Rattle.std.proofs.Common.{◌≡◌, ℕ, zero, suc, ◌+◌, ◌-◌, ◌<◌, List, Option, Some, None, slice_get, length, true, false, refl, ap, ◌∙◌, sym, arith, Bool, cond, ◌⊎◌, inl, inr}
+use Rattle.std.proofs.Common.{◌≡◌, ℕ, zero, suc, ◌-◌, ◌<◌, List, Option, Some, None, slice_get, length, true, false, refl, ap, ◌∙◌, sym, arith, Bool, cond, ◌⊎◌, inl, inr}
 use Rattle.std.proofs.lemmas.Bool.{cases_Bool}
 use Rattle.std.proofs.lemmas.Option.{slice_get_cases}
 use Rattle.std.specs.Option.{option_and_then, option_map_or}
+use Rattle.up_model.proofs.Places.{reached-nowhere}
 use Rattle.up_model.specs.Inputs.{PipeTest, passes_at, reached_within}
 use Rattle.up_model.specs.declared.pipe.Pipe.{Pipe}
 use Rattle.up_plan.specs.Laws.{input_at}
@@ -36,16 +37,6 @@ module _ (test : PipeTest) (pipes : List Pipe) where
   way_goes_on (suc steps) place next some passes input =
       let less : suc steps - 1 ≡ steps = omega arith in rw (reached_step test pipes steps place, passes, input, less) refl
 
-  -- and is none where there is no input
-  pub way_stops : (steps place : ℕ) → passes_at test pipes place ≡ false → input_at pipes place ≡ None → reached_within steps test pipes place ≡ None
-  way_stops zero place passes input = refl
-  way_stops (suc steps) place passes input = rw (reached_step test pipes steps place, passes, input) refl
-
-  -- or no pipe
-  pub way_outside : (steps place : ℕ) → slice_get pipes place ≡ None → reached_within steps test pipes place ≡ None
-  way_outside zero place outside = refl
-  way_outside (suc steps) place outside = rw outside refl
-
   -- a way ends here, or goes on from the input
   pub way_cases : (steps place end : ℕ) → reached_within (suc steps) test pipes place ≡ Some end
       → ((passes_at test pipes place ≡ true) × (place ≡ end))
@@ -74,7 +65,7 @@ module _ (test : PipeTest) (pipes : List Pipe) where
   pub way_within : (steps place end : ℕ) → reached_within steps test pipes place ≡ Some end → place < length pipes
   way_within steps place end is = elim (slice_get_cases pipes place).1 [
     | inl there ↦ there.1
-    | inr past ↦ let nowhere = way_outside steps place past.1 in cc
+    | inr past ↦ let nowhere = reached-nowhere test pipes place steps past.1 in cc
   ]
 
   -- what no step of a way changes is the same at its end

@@ -1,5 +1,5 @@
 -- In a well-formed graph every pipe has a source, and so a head.
-use Rattle.std.proofs.Common.{◌≡◌, ℕ, zero, suc, ◌+◌, ◌<◌, ◌≤◌, List, [], ◌∷◌, length, get_or, Option, Some, None, Bool, true, false, ◌||◌, refl, ap, ◌∙◌, sym, arith, cond, inl, inr, nat_lt}
+use Rattle.std.proofs.Common.{◌≡◌, ℕ, zero, suc, ◌<◌, ◌≤◌, List, [], ◌∷◌, length, get_or, Option, Some, None, Bool, true, false, ◌||◌, refl, ap, ◌∙◌, arith, inl, inr}
 use Rattle.std.proofs.lemmas.Bool.{cases_Bool}
 use Rattle.std.proofs.lemmas.Bool.Decides.{Decides-ltb}
 use Rattle.std.proofs.lemmas.Option.{slice_get_cases}
@@ -7,7 +7,7 @@ use Rattle.std.specs.List.{Contains, position, position_or_len}
 use Rattle.std.specs.Option.{option_or, is_some}
 use Rattle.std.specs.Prelude.{option_map, not}
 use Rattle.up_model.specs.Ends.{is_source}
-use Rattle.up_model.specs.Inputs.{PipeTest, passes_at, places, first_place, ends_at_source, source_of}
+use Rattle.up_model.specs.Inputs.{passes_at, places, first_place, ends_at_source, source_of}
 use Rattle.up_model.specs.Plans.{is_head, head_of, changes_worker}
 use Rattle.up_model.specs.WellFormed.{IsWellFormed, has_cycle, has_same_name, has_unknown_input}
 use Rattle.up_model.specs.declared.graph_fault.GraphFault.{GraphFault}

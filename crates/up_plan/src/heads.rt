@@ -1,5 +1,5 @@
 // Which pipes are heads, and whose head each is.
-ghost use Rattle.std.specs.Prelude.{◌≡◌, ◌≤◌, length, slice_get, IfOk};
+ghost use Rattle.std.specs.Prelude.{◌≡◌, ◌≤◌, ℕ, length, slice_get, IfOk};
 ghost use Rattle.std.specs.Option.{option_and_then};
 ghost use Rattle.up_model.specs.Inputs.{passes_at};
 ghost use Rattle.up_model.specs.Plans as plans;
@@ -20,7 +20,7 @@ fn input_at(pipes: &PipeList, place: u16) -> Option<u16>
 
 /// Whether a pipe has another worker than its input.
 fn changes_worker(pipes: &PipeList, pipe: &Pipe) -> bool
-    ensures { result ≡ plans.changes_worker pipes.now 0 pipe.now }
+    ensures { (place : ℕ) → result ≡ plans.changes_worker pipes.now place pipe.now }
 {
     let Some(place) = pipe.input else {
         return false;

@@ -1,5 +1,4 @@
-use Rattle.std.proofs.Common.{◌≡◌, ◌-◌, ◌+◌, ◌<◌, sym, ◌∙◌, ap, arith, rules}
-use Rattle.up_model.specs.Inputs.{reached_within}
+use Rattle.std.proofs.Common.{◌≡◌, ◌-◌, ◌+◌, ◌<◌, sym, ◌∙◌, arith, rules}
 use Rattle.up_model.specs.Plans as plans
 use Rattle.up_plan.proofs.Ways.{way_goes_on}
 use Rattle.up_plan.proofs.heads.head_of.Goals as goal

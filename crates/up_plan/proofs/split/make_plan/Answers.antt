@@ -1,4 +1,4 @@
-use Rattle.std.proofs.Common.{arith, ◌≡◌, ap, length, rules}
+use Rattle.std.proofs.Common.{arith}
 use Rattle.up_plan.proofs.Places.{head_of_each_length}
 use Rattle.up_plan.proofs.split.make_plan.Goals as goal
 

@@ -1,4 +1,4 @@
-use Rattle.std.proofs.Common.{◌≡◌, ◌<◌, ◌≤◌, length, take, true, false, sym, ◌∙◌, arith, rules}
+use Rattle.std.proofs.Common.{sym, arith, rules}
 use Rattle.up_plan.proofs.Places.{any_before-true, any_before-more}
 use Rattle.up_plan.proofs.workers.is_before.Goals as goal
 

@@ -1,4 +1,4 @@
-use Rattle.std.proofs.Common.{◌≡◌, ◌∙◌, sym, ap, arith, rules, ◌++◌, [], ◌∷◌, map}
+use Rattle.std.proofs.Common.{◌≡◌, sym, rules, ◌++◌, [], ◌∷◌, map}
 use Rattle.std.specs.List.{filter}
 use Rattle.up_model.specs.WellFormed as formed
 use Rattle.up_model.specs.Inputs.{passes_at}
