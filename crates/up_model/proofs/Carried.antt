@@ -7,7 +7,7 @@ use Rattle.std.proofs.lemmas.List.Elements.{All-nil}
 use Rattle.up_model.proofs.Packets.{pieces_are_legal}
 use Rattle.up_model.specs.Ends.{IsSourceForm}
 use Rattle.up_model.specs.Kinds.{IsWithinBounds}
-use Rattle.up_model.specs.Outcomes.{carried_as, flow_so_far, packets_of, whole_flow, whole_packets_of}
+use Rattle.up_model.specs.Outcomes.{carried_as, settled_source_flow, packets_of, source_flow, settled_packets_of}
 use Rattle.up_model.specs.Packet.{Flow, IsLegal}
 use Rattle.up_model.specs.declared.form.SourceForm.{SourceForm}
 use Rattle.up_model.specs.declared.form.SourceForm.TheVariants.{Raw}
@@ -19,14 +19,14 @@ use Rattle.up_model.specs.declared.outcome.Outcome.TheVariants.{Whole, ReadFault
 pub packets_are_legal : (form : SourceForm) (bytes : List ℕ) → IsSourceForm form → All IsLegal (packets_of form bytes)
 packets_are_legal (Raw block) bytes form = pieces_are_legal block bytes ((length bytes + block - 1) / block) form.1
 
-pub whole_packets_are_legal : (form : SourceForm) (bytes : List ℕ) → IsSourceForm form → All IsLegal (whole_packets_of form bytes)
+pub whole_packets_are_legal : (form : SourceForm) (bytes : List ℕ) → IsSourceForm form → All IsLegal (settled_packets_of form bytes)
 whole_packets_are_legal (Raw block) bytes form = pieces_are_legal block bytes (length bytes / block) form.1
 
-pub whole_is_legal : (kind : Kind) (bytes : List ℕ) → IsWithinBounds kind → All IsLegal (whole_flow kind bytes)
+pub whole_is_legal : (kind : Kind) (bytes : List ℕ) → IsWithinBounds kind → All IsLegal (source_flow kind bytes)
 whole_is_legal (Source path form limit) bytes within = packets_are_legal form bytes within.1
 whole_is_legal kind bytes within = All-nil IsLegal
 
-pub so_far_is_legal : (kind : Kind) (bytes : List ℕ) → IsWithinBounds kind → All IsLegal (flow_so_far kind bytes)
+pub so_far_is_legal : (kind : Kind) (bytes : List ℕ) → IsWithinBounds kind → All IsLegal (settled_source_flow kind bytes)
 so_far_is_legal (Source path form limit) bytes within = whole_packets_are_legal form bytes within.1
 so_far_is_legal kind bytes within = All-nil IsLegal
 
@@ -40,21 +40,21 @@ carried_are_legal Broken kind bytes within = All-nil IsLegal
 carried_are_legal NoMemory kind bytes within = All-nil IsLegal
 
 -- what a source has whatever comes after its bytes comes first of all that it has
-so_far_first : (kind : Kind) (bytes more : List ℕ) → IsWithinBounds kind → IsPrefix (flow_so_far kind bytes) (whole_flow kind (bytes ++ more))
+so_far_first : (kind : Kind) (bytes more : List ℕ) → IsWithinBounds kind → IsPrefix (settled_source_flow kind bytes) (source_flow kind (bytes ++ more))
 so_far_first (Source path (Raw block) limit) bytes more within = full_blocks-blocks block bytes more (omega (arith, within.1.0))
 so_far_first kind bytes more within = ([], refl)
 
 -- so does what it carried, however it ended; where it is whole, it gave all
 pub carried_is_first : (outcome : Outcome) (kind : Kind) (bytes more : List ℕ) → IsWithinBounds kind → (outcome ≡ Whole → more ≡ [])
-    → IsPrefix (carried_as outcome kind bytes) (whole_flow kind (bytes ++ more))
+    → IsPrefix (carried_as outcome kind bytes) (source_flow kind (bytes ++ more))
 carried_is_first Whole kind bytes more within whole =
     let all : bytes ++ more ≡ bytes = ap (λ l. bytes ++ l) (whole refl) ∙ append-nil bytes in
-    subst (λ (l : List ℕ). IsPrefix (whole_flow kind bytes) (whole_flow kind l)) (sym all) ([], sym (append-nil (whole_flow kind bytes)))
+    subst (λ (l : List ℕ). IsPrefix (source_flow kind bytes) (source_flow kind l)) (sym all) ([], sym (append-nil (source_flow kind bytes)))
 carried_is_first ReadFault kind bytes more within whole = so_far_first kind bytes more within
 carried_is_first (TooLong limit) kind bytes more within whole =
     let all : take limit bytes ++ (drop limit bytes ++ more) ≡ bytes ++ more =
     sym (append_assoc (take limit bytes) (drop limit bytes) more) ∙ ap (λ l. l ++ more) (take-append-drop limit bytes) in
-    subst (λ (l : List ℕ). IsPrefix (flow_so_far kind (take limit bytes)) (whole_flow kind l)) all (so_far_first kind (take limit bytes) (drop limit bytes ++ more) within)
-carried_is_first WriteFault kind bytes more within whole = (whole_flow kind (bytes ++ more), refl)
-carried_is_first Broken kind bytes more within whole = (whole_flow kind (bytes ++ more), refl)
-carried_is_first NoMemory kind bytes more within whole = (whole_flow kind (bytes ++ more), refl)
+    subst (λ (l : List ℕ). IsPrefix (settled_source_flow kind (take limit bytes)) (source_flow kind l)) all (so_far_first kind (take limit bytes) (drop limit bytes ++ more) within)
+carried_is_first WriteFault kind bytes more within whole = (source_flow kind (bytes ++ more), refl)
+carried_is_first Broken kind bytes more within whole = (source_flow kind (bytes ++ more), refl)
+carried_is_first NoMemory kind bytes more within whole = (source_flow kind (bytes ++ more), refl)

@@ -5,7 +5,7 @@ use Rattle.std.proofs.lemmas.List.Elements.{All-nil}
 use Rattle.up_base.specs.Lists.{IsPrefix}
 use Rattle.up_model.proofs.Carried.{carried_is_first, carried_are_legal}
 use Rattle.up_model.proofs.WellFormed.{is_pipe}
-use Rattle.up_model.specs.Outcomes.{carried_as, flows_by, whole_flows}
+use Rattle.up_model.specs.Outcomes.{carried_as, carried_flows, source_flows}
 use Rattle.up_model.specs.Packet.{Flow, IsLegal}
 use Rattle.up_model.specs.WellFormed.{IsWellFormed}
 use Rattle.up_model.specs.declared.outcome.Outcome.{Outcome}
@@ -21,7 +21,7 @@ module _ (pipes : List Pipe) (well : IsWellFormed pipes) (ends : ℕ → Outcome
       carried_is_first (ends place) pipe.kind (bytes place) (more place) (is_pipe pipes well place pipe is).kind (whole place)
 
   pub carried_flows_first : (more : ℕ → List ℕ) → ((source : ℕ) → ends source ≡ Whole → more source ≡ []) → (place : ℕ)
-      → IsPrefix (flows_by pipes ends bytes place) (whole_flows pipes (λ source. bytes source ++ more source) place)
+      → IsPrefix (carried_flows pipes ends bytes place) (source_flows pipes (λ source. bytes source ++ more source) place)
   carried_flows_first more whole place = first_at more whole place (slice_get pipes place) refl
 
   legal_at : (place : ℕ) (pipe : Option Pipe) → slice_get pipes place ≡ pipe
@@ -29,5 +29,5 @@ module _ (pipes : List Pipe) (well : IsWellFormed pipes) (ends : ℕ → Outcome
   legal_at place None is = All-nil IsLegal
   legal_at place (Some pipe) is = carried_are_legal (ends place) pipe.kind (bytes place) (is_pipe pipes well place pipe is).kind
 
-  pub carried_flows_are_legal : (place : ℕ) → All IsLegal (flows_by pipes ends bytes place)
+  pub carried_flows_are_legal : (place : ℕ) → All IsLegal (carried_flows pipes ends bytes place)
   carried_flows_are_legal place = legal_at place (slice_get pipes place) refl

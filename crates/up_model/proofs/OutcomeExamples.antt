@@ -1,13 +1,12 @@
 -- Worked examples of how pipes end and of what a source then carried, computed.
 use Rattle.std.proofs.Common.{◌≡◌, ℕ, zero, suc, Bool, true, false, List, [], ◌∷◌, Some, None, map, refl}
-use Rattle.std.specs.Prelude.{codes}
+use Rattle.std.specs.Prelude.{codes, nat_le, ◌&&◌}
 use Rattle.up_model.proofs.ExampleChain.{raw_source}
 use Rattle.up_model.proofs.ExampleTree.{tree}
 use Rattle.up_model.specs.Inputs.{places}
-use Rattle.up_model.specs.Outcomes.{outcome_of, carried_as, carried_flow, pipe_outcome, outcome_at, deciding}
+use Rattle.up_model.specs.Outcomes.{outcome_of, carried_as, carried_flow, own_outcome, outcome_behind, outcome_at, deciding}
 use Rattle.up_model.specs.Packet.{plain}
-use Rattle.up_model.specs.declared.form.SinkForm.TheVariants.{Raw}
-use Rattle.up_model.specs.declared.kind.Kind.TheVariants.{Sink, Idem}
+use Rattle.up_model.specs.declared.kind.Kind.TheVariants.{Idem}
 use Rattle.up_model.specs.declared.outcome.Outcome.TheVariants.{Whole, ReadFault, WriteFault, TooLong, Broken, NoMemory}
 
 -- as many bytes as the limit are whole
@@ -52,11 +51,16 @@ second_fails (suc (suc (suc place))) = false
 pub one_branch : map (outcome_at tree second_fails bytes) (places tree) ≡ Whole ∷ Whole ∷ ReadFault ∷ Broken ∷ Whole ∷ Whole ∷ Whole ∷ []
 one_branch = refl
 
--- a sink whose write failed has that cause, also behind a source that failed; a pipe between has none
-pub failed_calls :
-    (pipe_outcome (Sink (codes "o") Raw) true [] Broken ≡ WriteFault) × (pipe_outcome (Sink (codes "o") Raw) false [] ReadFault ≡ Broken)
-    × (pipe_outcome Idem true [] Whole ≡ Whole)
-failed_calls = (refl, refl, refl)
+-- a sink whose write failed has that cause, also behind a source that failed
+abbrev both_fail : ℕ → Bool
+both_fail place = nat_le 2 place && nat_le place 3
+
+pub failed_calls : map (outcome_at tree both_fail bytes) (places tree) ≡ Whole ∷ Whole ∷ ReadFault ∷ WriteFault ∷ Whole ∷ Whole ∷ Whole ∷ []
+failed_calls = refl
+
+-- a pipe between has no cause of its own, and is broken behind a source that is too long
+pub between : (own_outcome Idem true [] ≡ None) × (outcome_behind (TooLong 5) ≡ Broken)
+between = (refl, refl)
 
 -- the first in file order decides; where none has a cause, none does
 pub first_decides :

@@ -7,17 +7,17 @@ use Rattle.up_model.proofs.ExampleTree.{tree, archive, tails, other}
 use Rattle.up_model.specs.Ends.{is_source, is_sink, is_between}
 use Rattle.up_model.specs.Inputs.{IsPlaceOf}
 use Rattle.up_model.specs.Meaning.{sink_bytes}
-use Rattle.up_model.specs.Outcomes.{whole_flow, flow_so_far, whole_flows, bytes_at}
+use Rattle.up_model.specs.Outcomes.{source_flow, settled_source_flow, source_flows, bytes_at}
 use Rattle.up_model.specs.Packet.{plain}
 use Rattle.up_model.specs.declared.kind.Kind.TheVariants.{Idem}
 
 -- more bytes may still fill the last packet of a source
-pub last_packet : (whole_flow (raw_source 2 9) (codes "abc") ≡ map plain (codes "ab" ∷ codes "c" ∷ []))
-    × (flow_so_far (raw_source 2 9) (codes "abc") ≡ plain (codes "ab") ∷ [])
+pub last_packet : (source_flow (raw_source 2 9) (codes "abc") ≡ map plain (codes "ab" ∷ codes "c" ∷ []))
+    × (settled_source_flow (raw_source 2 9) (codes "abc") ≡ plain (codes "ab") ∷ [])
 last_packet = (refl, refl)
 
 -- a pipe that is no source holds nothing
-pub no_source : (whole_flow Idem (codes "abc") ≡ []) × (flow_so_far Idem (codes "abc") ≡ [])
+pub no_source : (source_flow Idem (codes "abc") ≡ []) × (settled_source_flow Idem (codes "abc") ≡ [])
 no_source = (refl, refl)
 
 -- of three entries, those of the sources count
@@ -27,15 +27,15 @@ bytes = codes "none" ∷ codes "abcdefghij" ∷ codes "xy" ∷ []
 pub entries : (bytes_at bytes 1 ≡ codes "abcdefghij") × (bytes_at bytes 3 ≡ [])
 entries = (refl, refl)
 
-pub flows : (whole_flows tree (bytes_at bytes) 0 ≡ [])
-    × (whole_flows tree (bytes_at bytes) 1 ≡ map plain (codes "abcd" ∷ codes "efgh" ∷ codes "ij" ∷ []))
-    × (whole_flows tree (bytes_at bytes) 7 ≡ [])
+pub flows : (source_flows tree (bytes_at bytes) 0 ≡ [])
+    × (source_flows tree (bytes_at bytes) 1 ≡ map plain (codes "abcd" ∷ codes "efgh" ∷ codes "ij" ∷ []))
+    × (source_flows tree (bytes_at bytes) 7 ≡ [])
 flows = (refl, refl, refl)
 
 -- the sinks of the tree
-pub sinks : (sink_bytes tree (whole_flows tree (bytes_at bytes)) archive ≡ codes "abcdefghij")
-    × (sink_bytes tree (whole_flows tree (bytes_at bytes)) tails ≡ codes "dh")
-    × (sink_bytes tree (whole_flows tree (bytes_at bytes)) other ≡ codes "xy")
+pub sinks : (sink_bytes tree (source_flows tree (bytes_at bytes)) archive ≡ codes "abcdefghij")
+    × (sink_bytes tree (source_flows tree (bytes_at bytes)) tails ≡ codes "dh")
+    × (sink_bytes tree (source_flows tree (bytes_at bytes)) other ≡ codes "xy")
 sinks = (refl, refl, refl)
 
 -- a source, a sink, and a pipe that is neither

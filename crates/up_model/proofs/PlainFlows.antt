@@ -7,7 +7,7 @@ use Rattle.up_model.proofs.PlainKinds.{shares_all}
 use Rattle.up_model.specs.Ends.{is_source, is_sink}
 use Rattle.up_model.specs.Kinds.{output_of, module_kind}
 use Rattle.up_model.specs.Meaning.{wholly, done_by, selected, shared, taken_by, taken_from, work_at, flow_within}
-use Rattle.up_model.specs.Outcomes.{whole_flow, whole_flows, bytes_at}
+use Rattle.up_model.specs.Outcomes.{source_flow, source_flows, bytes_at}
 use Rattle.up_model.specs.Packet.{Flow}
 use Rattle.up_model.specs.declared.kind.Kind.{Kind}
 use Rattle.up_model.specs.declared.kind.Kind.TheVariants.{Source, Sink}
@@ -70,8 +70,8 @@ module _ (pipes : List Pipe) (given : ℕ → Flow) (steps place : ℕ) (pipe : 
       ap (λ steps. flow_within wholly pipes given steps place) one_less ∙ unrolled pipes given (steps - 1) place pipe there
 
   -- a source puts out what it is given
-  pub source_flow : is_source pipe.kind ≡ true → flow_within wholly pipes given steps place ≡ given place
-  source_flow is = one_step ∙ source_puts place pipe.kind (selected pipes place) (given place) _ is
+  pub source_puts_packets : is_source pipe.kind ≡ true → flow_within wholly pipes given steps place ≡ given place
+  source_puts_packets is = one_step ∙ source_puts place pipe.kind (selected pipes place) (given place) _ is
 
   -- a sink nothing
   pub sink_flow : is_sink pipe.kind ≡ true → flow_within wholly pipes given steps place ≡ []
@@ -87,7 +87,7 @@ module _ (pipes : List Pipe) (given : ℕ → Flow) (steps place : ℕ) (pipe : 
 
 -- a source is given the packets of its bytes
 pub given_source : (pipes : List Pipe) (given : List (List ℕ)) (place : ℕ) (pipe : Pipe) (bytes : List ℕ) → slice_get pipes place ≡ Some pipe
-    → slice_get given place ≡ Some bytes → whole_flows pipes (bytes_at given) place ≡ whole_flow pipe.kind bytes
+    → slice_get given place ≡ Some bytes → source_flows pipes (bytes_at given) place ≡ source_flow pipe.kind bytes
 given_source pipes given place pipe bytes there are =
-    ap (λ found. option_map_or (λ (pipe : Pipe). whole_flow pipe.kind (bytes_at given place)) found []) there
-    ∙ ap (λ found. whole_flow pipe.kind (unwrap_or found [])) are
+    ap (λ found. option_map_or (λ (pipe : Pipe). source_flow pipe.kind (bytes_at given place)) found []) there
+    ∙ ap (λ found. source_flow pipe.kind (unwrap_or found [])) are

@@ -5,7 +5,7 @@ use Rattle.up_model.proofs.Carried.{packets_are_legal, whole_packets_are_legal}
 use Rattle.up_model.proofs.EveryKind.{lawful}
 use Rattle.up_model.specs.Ends.{IsSourceForm}
 use Rattle.up_model.specs.Kinds.{IsWithinBounds, output_of}
-use Rattle.up_model.specs.Outcomes.{packets_of, whole_packets_of}
+use Rattle.up_model.specs.Outcomes.{packets_of, settled_packets_of}
 use Rattle.up_model.specs.Packet.{Flow, IsLegal}
 use Rattle.up_model.specs.declared.form.SourceForm.{SourceForm}
 use Rattle.up_model.specs.declared.kind.Kind.{Kind}
@@ -19,10 +19,10 @@ legal_of_two (Err refused) whole all some is is' legal legal' = tt
 
 -- the packets of a source's bytes are legal, whether these are all of them or not
 pub packets_legal : {E : Type 0} (result : Result Flow E) (whole : Bool) (form : SourceForm) (bytes : List ℕ) → IsSourceForm form
-    → (whole ≡ true → IfOk result (λ put. put ≡ packets_of form bytes)) → (whole ≡ false → IfOk result (λ put. put ≡ whole_packets_of form bytes))
+    → (whole ≡ true → IfOk result (λ put. put ≡ packets_of form bytes)) → (whole ≡ false → IfOk result (λ put. put ≡ settled_packets_of form bytes))
     → IfOk result (All IsLegal)
 packets_legal result whole form bytes is all some =
-    legal_of_two result whole (packets_of form bytes) (whole_packets_of form bytes) all some
+    legal_of_two result whole (packets_of form bytes) (settled_packets_of form bytes) all some
     (packets_are_legal form bytes is) (whole_packets_are_legal form bytes is)
 
 -- so is what a kind puts out for legal packets

@@ -3,7 +3,7 @@
 use Rattle.std.specs.Prelude.{ℕ, zero, suc, ◌==◌, List, [], length, slice_get, filter_map, Option, Some, None, option_and_then, if◌then◌else◌}
 use Rattle.up_model.specs.Kinds.{work_of, settled_work, share_of, module_kind, written_of}
 use Rattle.up_model.specs.Packet.{Flow}
-use Rattle.up_model.specs.Tallies.{of_source, stopped, uncaught_at}
+use Rattle.up_model.specs.Tallies.{of_source, stopped, past_own_probe}
 use Rattle.up_model.specs.Work.{Work, no_work}
 use Rattle.up_model.specs.declared.kind.Kind.{Kind}
 use Rattle.up_model.specs.declared.kind.Kind.TheVariants.{Source}
@@ -103,4 +103,4 @@ module _ (pipes : List Pipe) (given : ℕ → Flow) where
 
   -- the six sums of the pipe at a place, each stopped at 2^64 - 1, and 0 where the pipe's own probe catches its kind
   abbrev pub tally_of : ℕ → Tally
-  tally_of place = uncaught_at (slice_get pipes place) (stopped (pipe_work wholly pipes given place).tally)
+  tally_of place = past_own_probe (slice_get pipes place) (stopped (pipe_work wholly pipes given place).tally)

@@ -1,5 +1,5 @@
 -- How the pipes of a graph end, and what a source then carried.
-use Rattle.std.specs.Prelude.{ℕ, Bool, true, false, List, [], length, take, position, nat_lt, slice_get, Option, unwrap_or, if◌then◌else◌}
+use Rattle.std.specs.Prelude.{ℕ, Bool, true, false, List, [], length, take, position, nat_lt, slice_get, Option, Some, None, option_and_then, unwrap_or, if◌then◌else◌}
 use Rattle.std.specs.Option.{option_map_or}
 use Rattle.up_model.specs.Cutting.{blocks, full_blocks}
 use Rattle.up_model.specs.Inputs.{source_of}
@@ -21,9 +21,9 @@ source_outcome (Raw block) limit bytes =
 abbrev pub packets_of : SourceForm → List ℕ → Flow
 packets_of (Raw block) bytes = blocks block bytes
 
--- those that they hold whatever comes after them
-abbrev pub whole_packets_of : SourceForm → List ℕ → Flow
-whole_packets_of (Raw block) bytes = full_blocks block bytes
+-- those that are settled: they hold them whatever comes after
+abbrev pub settled_packets_of : SourceForm → List ℕ → Flow
+settled_packets_of (Raw block) bytes = full_blocks block bytes
 
 -- where no read fails: as a source of its form; a pipe that is no source is whole
 abbrev pub outcome_of : Kind → List ℕ → Outcome
@@ -31,20 +31,20 @@ outcome_of (Source path form limit) bytes = source_outcome form limit bytes
 outcome_of kind bytes = Whole
 
 -- the packets of a source's bytes, where these are all of them; a pipe that is no source carries nothing of its own
-abbrev pub whole_flow : Kind → List ℕ → Flow
-whole_flow (Source path form limit) bytes = packets_of form bytes
-whole_flow kind bytes = []
+abbrev pub source_flow : Kind → List ℕ → Flow
+source_flow (Source path form limit) bytes = packets_of form bytes
+source_flow kind bytes = []
 
--- those that it has whatever comes after these bytes
-abbrev pub flow_so_far : Kind → List ℕ → Flow
-flow_so_far (Source path form limit) bytes = whole_packets_of form bytes
-flow_so_far kind bytes = []
+-- those that are settled: it has them whatever comes after these bytes
+abbrev pub settled_source_flow : Kind → List ℕ → Flow
+settled_source_flow (Source path form limit) bytes = settled_packets_of form bytes
+settled_source_flow kind bytes = []
 
--- what a pipe carried that ended so and was given these bytes; an open source ends in no other way than the first three
+-- what a pipe carried that ended so and was given these bytes; the last three are no ends of an open source
 abbrev pub carried_as : Outcome → Kind → List ℕ → Flow
-carried_as Whole kind bytes = whole_flow kind bytes
-carried_as ReadFault kind bytes = flow_so_far kind bytes
-carried_as (TooLong limit) kind bytes = flow_so_far kind (take limit bytes)
+carried_as Whole kind bytes = source_flow kind bytes
+carried_as ReadFault kind bytes = settled_source_flow kind bytes
+carried_as (TooLong limit) kind bytes = settled_source_flow kind (take limit bytes)
 carried_as WriteFault kind bytes = []
 carried_as Broken kind bytes = []
 carried_as NoMemory kind bytes = []
@@ -54,13 +54,13 @@ abbrev pub carried_flow : Kind → List ℕ → Flow
 carried_flow kind bytes = carried_as (outcome_of kind bytes) kind bytes
 
 -- by place: what each source carried, by how it ended and the bytes that it was given
-abbrev pub flows_by : List Pipe → (ℕ → Outcome) → (ℕ → List ℕ) → ℕ → Flow
-flows_by pipes ends bytes place =
+abbrev pub carried_flows : List Pipe → (ℕ → Outcome) → (ℕ → List ℕ) → ℕ → Flow
+carried_flows pipes ends bytes place =
     option_map_or (λ pipe. carried_as (ends place) pipe.kind (bytes place)) (slice_get pipes place) []
 
 -- the same where each source counts with all of its bytes
-abbrev pub whole_flows : List Pipe → (ℕ → List ℕ) → ℕ → Flow
-whole_flows pipes bytes = flows_by pipes (λ place. Whole) bytes
+abbrev pub source_flows : List Pipe → (ℕ → List ℕ) → ℕ → Flow
+source_flows pipes bytes = carried_flows pipes (λ place. Whole) bytes
 
 -- the bytes at a place of a list that has an entry for each pipe
 abbrev pub bytes_at : List (List ℕ) → ℕ → List ℕ
@@ -75,26 +75,28 @@ outcome_behind (TooLong limit) = Broken
 outcome_behind Broken = Broken
 outcome_behind NoMemory = NoMemory
 
--- the outcome of a pipe of the kind, once all paths are opened: by whether a call on its own path failed, by its bytes where it is a
--- source, and by the outcome of its source where it is none
-abbrev pub pipe_outcome : Kind → Bool → List ℕ → Outcome → Outcome
-pipe_outcome (Source path form limit) true bytes source = ReadFault
-pipe_outcome (Source path form limit) false bytes source = source_outcome form limit bytes
-pipe_outcome (Sink path form) true bytes source = WriteFault
-pipe_outcome (Sink path form) false bytes source = outcome_behind source
-pipe_outcome kind failed bytes source = outcome_behind source
+-- how a pipe of the kind ended by itself, once all paths are opened: by whether a call on its own path failed, and by its bytes where
+-- it is a source; any other pipe without such a failure ends as its source does
+abbrev pub own_outcome : Kind → Bool → List ℕ → Option Outcome
+own_outcome (Source path form limit) true bytes = Some ReadFault
+own_outcome (Source path form limit) false bytes = Some (source_outcome form limit bytes)
+own_outcome (Sink path form) true bytes = Some WriteFault
+own_outcome (Sink path form) false bytes = None
+own_outcome kind failed bytes = None
 
 module _ (pipes : List Pipe) (failed : ℕ → Bool) (bytes : ℕ → List ℕ) where
-  -- the outcome of the pipe at a place, by that of its source
-  abbrev pub outcome_from : Outcome → ℕ → Outcome
-  outcome_from source place = option_map_or
-      (λ pipe. pipe_outcome pipe.kind (failed place) (bytes place) source)
-      (slice_get pipes place) Whole
+  -- so of the pipe at a place
+  abbrev pub own_at : ℕ → Option Outcome
+  own_at place = option_and_then
+      (λ pipe. own_outcome pipe.kind (failed place) (bytes place)) (slice_get pipes place)
 
-  -- by whether a call on the path at each place failed, and by the bytes of each source
+  -- the outcome of the source of a place
+  abbrev pub source_outcome_at : ℕ → Outcome
+  source_outcome_at place = unwrap_or (option_and_then own_at (source_of pipes place)) Whole
+
+  -- the outcome of the pipe at a place, by whether a call on the path at each place failed and by the bytes of each source
   abbrev pub outcome_at : ℕ → Outcome
-  outcome_at place =
-      outcome_from (option_map_or (outcome_from Whole) (source_of pipes place) Whole) place
+  outcome_at place = unwrap_or (own_at place) (outcome_behind (source_outcome_at place))
 
 -- a cause that is the pipe's own
 abbrev pub is_cause : Outcome → Bool

@@ -73,9 +73,9 @@ uncaught caught sums = record sums {
 }
 
 -- past the pipe's own probe
-abbrev pub uncaught_at : Option Pipe → Tally → Tally
-uncaught_at None sums = sums
-uncaught_at (Some pipe) sums = uncaught pipe.caught sums
+abbrev pub past_own_probe : Option Pipe → Tally → Tally
+past_own_probe None sums = sums
+past_own_probe (Some pipe) sums = uncaught pipe.caught sums
 
 -- one packet was taken and put out, less so many bytes
 abbrev pub of_passed : ℕ → Tally

@@ -6,7 +6,7 @@ ghost use Rattle.up_model.specs.Ends.{is_source, path_of};
 ghost use Rattle.up_model.specs.Inputs.{PipeTest, reached_within, reached, source_of};
 ghost use Rattle.up_model.specs.Kinds.{IsWithinBounds};
 ghost use Rattle.up_model.specs.Meaning.{Doing, flow_by, pipe_work, flow_at, input_of, sink_bytes, settled_flow, settled_input, settled_bytes};
-ghost use Rattle.up_model.specs.Outcomes.{carried_as, flows_by, whole_flow, whole_flows};
+ghost use Rattle.up_model.specs.Outcomes.{carried_as, carried_flows, source_flow, source_flows};
 ghost use Rattle.up_model.specs.Packet.{Flow, IsLegal};
 ghost use Rattle.up_model.specs.WellFormed.{IsWellFormed};
 ghost use Rattle.up_model.specs.declared.kind.Kind.{Kind as TheKind};
@@ -67,7 +67,7 @@ pub fn settled_bytes_grow()
 pub fn carried_comes_first()
     ensures { (ends : TheOutcome) (kind : TheKind) (bytes more : List ℕ) → IsWithinBounds kind
         → (ends ≡ outcomes.Whole → more ≡ [])
-        → IsPrefix (carried_as ends kind bytes) (whole_flow kind (bytes ++ more)) }
+        → IsPrefix (carried_as ends kind bytes) (source_flow kind (bytes ++ more)) }
 {}
 
 /// What is settled for a sink of what its source carried is a prefix of what it is to hold of all of the source's bytes.
@@ -75,8 +75,8 @@ pub fn carried_bytes_come_first()
     ensures { (pipes : List ThePipe) (ends : ℕ → TheOutcome) (bytes more : ℕ → List ℕ)
         (sink : ThePipe) → IsWellFormed pipes → IsWithinBounds sink.kind
         → ((source : ℕ) → ends source ≡ outcomes.Whole → more source ≡ [])
-        → IsPrefix (settled_bytes pipes (flows_by pipes ends bytes) sink)
-        (sink_bytes pipes (whole_flows pipes (λ source. bytes source ++ more source)) sink) }
+        → IsPrefix (settled_bytes pipes (carried_flows pipes ends bytes) sink)
+        (sink_bytes pipes (source_flows pipes (λ source. bytes source ++ more source)) sink) }
 {}
 
 /// In a well-formed graph all packets are legal where those of the sources are.
@@ -92,5 +92,5 @@ pub fn flows_stay_legal()
         → IsWellFormed pipes → ((source : ℕ) → All IsLegal (given source))
         → All IsLegal (settled_input pipes given pipe) }
     ensures sources { (pipes : List ThePipe) (ends : ℕ → TheOutcome) (bytes : ℕ → List ℕ)
-        (place : ℕ) → IsWellFormed pipes → All IsLegal (flows_by pipes ends bytes place) }
+        (place : ℕ) → IsWellFormed pipes → All IsLegal (carried_flows pipes ends bytes place) }
 {}

@@ -4,7 +4,7 @@ ghost use Rattle.up_model.specs.Ends.{is_source, is_sink, is_between};
 ghost use Rattle.up_model.specs.Inputs.{IsPlaceOf};
 ghost use Rattle.up_model.specs.Kinds.{output_of, settled_output, written_of, module_kind};
 ghost use Rattle.up_model.specs.Meaning.{selected, sink_bytes};
-ghost use Rattle.up_model.specs.Outcomes.{whole_flow, flow_so_far, whole_flows, bytes_at};
+ghost use Rattle.up_model.specs.Outcomes.{source_flow, settled_source_flow, source_flows, bytes_at};
 ghost use Rattle.up_model.specs.Packet.{IsLegal};
 ghost use Rattle.up_model.specs.WellFormed.{IsWellFormed};
 
@@ -27,9 +27,9 @@ pub fn plain_source(
     requires well_formed { IsWellFormed graph.now.pipes }
     requires source { IsPlaceOf is_source graph.now.pipes pipe }
     ensures whole { whole ≡ true → IfOk result (λ packets.
-        IfSome (slice_get graph.now.pipes pipe) (λ own. packets ≡ whole_flow own.kind bytes.now)) }
-    ensures so_far { whole ≡ false → IfOk result (λ packets.
-        IfSome (slice_get graph.now.pipes pipe) (λ own. packets ≡ flow_so_far own.kind bytes.now)) }
+        IfSome (slice_get graph.now.pipes pipe) (λ own. packets ≡ source_flow own.kind bytes.now)) }
+    ensures settled { whole ≡ false → IfOk result (λ packets.
+        IfSome (slice_get graph.now.pipes pipe) (λ own. packets ≡ settled_source_flow own.kind bytes.now)) }
     ensures legal { IfOk result (All IsLegal) }
 {
     match &graph.pipes.at(pipe).kind {
@@ -107,7 +107,7 @@ pub fn plain_output(
     requires each { length given.now ≡ length graph.now.pipes }
     requires sink { IsPlaceOf is_sink graph.now.pipes sink }
     ensures { IfOk result (λ bytes. IfSome (slice_get graph.now.pipes sink) (λ own.
-        bytes ≡ sink_bytes graph.now.pipes (whole_flows graph.now.pipes (bytes_at given.now)) own)) }
+        bytes ≡ sink_bytes graph.now.pipes (source_flows graph.now.pipes (bytes_at given.now)) own)) }
 {
     match graph.pipes.at(sink).input {
         None => plain_sink(alloc, graph, sink, &PacketList::new(alloc)),

@@ -2,7 +2,7 @@
 ghost use Rattle.std.specs.Prelude.{◌≡◌, ◌+◌, ◌*◌, ◌<◌, ◌≤◌, length, true, false, IfOk};
 ghost use Rattle.up_model.specs.Cutting.{piece, pieces};
 ghost use Rattle.up_model.specs.Ends.{IsSourceForm, written_by};
-ghost use Rattle.up_model.specs.Outcomes.{packets_of, whole_packets_of};
+ghost use Rattle.up_model.specs.Outcomes.{packets_of, settled_packets_of};
 ghost use Rattle.up_model.specs.Packet.{joined};
 
 use crate::{PacketList, PlainPacket, SinkForm, SourceForm};
@@ -40,8 +40,8 @@ pub(crate) fn form_packets(
 ) -> Result<PacketList, NoMemory>
     requires { IsSourceForm form }
     ensures whole { whole ≡ true → IfOk result (λ packets. packets ≡ packets_of form bytes.now) }
-    ensures so_far { whole ≡ false
-        → IfOk result (λ packets. packets ≡ whole_packets_of form bytes.now) }
+    ensures settled { whole ≡ false
+        → IfOk result (λ packets. packets ≡ settled_packets_of form bytes.now) }
 {
     match form {
         SourceForm::Raw { block } => {

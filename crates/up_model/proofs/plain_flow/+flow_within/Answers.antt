@@ -1,7 +1,7 @@
 use Rattle.std.proofs.Common.{◌≡◌, ◌<◌, ◌-◌, [], Some, None, slice_get, true, false, refl, ◌∙◌, sym, rules, arith}
-use Rattle.up_model.proofs.PlainFlows.{source_flow, sink_flow, other_flow, takes_all, takes_nothing, given_source}
+use Rattle.up_model.proofs.PlainFlows.{source_puts_packets, sink_flow, other_flow, takes_all, takes_nothing, given_source}
 use Rattle.up_model.specs.Ends.{is_source, is_sink}
-use Rattle.up_model.specs.Outcomes.{whole_flows, bytes_at}
+use Rattle.up_model.specs.Outcomes.{source_flows, bytes_at}
 use Rattle.up_model.proofs.plain_flow.+flow_within.Goals as goal
 
 pub returns-then-is_source-clause-flow : goal.returns-then-is_source-clause-flow
@@ -12,7 +12,7 @@ returns-then-is_source-clause-flow t c =
     let some : 0 < c.args.steps = omega arith in
     let bytes : slice_get given c.args.place ≡ Some c.as_slice.result.now = search rules in
     let is : is_source own.kind ≡ true = search rules in
-    rw (source_flow pipes (whole_flows pipes (bytes_at given)) c.args.steps c.args.place own some c.at-own.ensures is, given_source pipes given c.args.place own c.as_slice.result.now c.at-own.ensures bytes)
+    rw (source_puts_packets pipes (source_flows pipes (bytes_at given)) c.args.steps c.args.place own some c.at-own.ensures is, given_source pipes given c.args.place own c.as_slice.result.now c.at-own.ensures bytes)
     (rw c.at-own.ensures at (c.plain_source.ensures.whole refl))
 
 pub returns-then-is_sink-clause-flow : goal.returns-then-is_sink-clause-flow
@@ -21,12 +21,12 @@ returns-then-is_sink-clause-flow t c =
     let some : 0 < c.args.steps = omega arith in
     let is : is_sink c.at-own.result.now.kind ≡ true = search rules in
     c.new-then-is_sink.ensures
-    ∙ sym (sink_flow pipes (whole_flows pipes (bytes_at c.args.given.now)) c.args.steps c.args.place c.at-own.result.now some c.at-own.ensures is)
+    ∙ sym (sink_flow pipes (source_flows pipes (bytes_at c.args.given.now)) c.args.steps c.args.place c.at-own.result.now some c.at-own.ensures is)
 
 pub returns-in-None-clause-flow : goal.returns-in-None-clause-flow
 returns-in-None-clause-flow t c =
     let pipes = c.args.graph.now.pipes in
-    let flows = whole_flows pipes (bytes_at c.args.given.now) in
+    let flows = source_flows pipes (bytes_at c.args.given.now) in
     let own = c.at-own.result.now in
     let some : 0 < c.args.steps = omega arith in
     let is : is_source own.kind ≡ false = search rules in
@@ -38,7 +38,7 @@ returns-in-None-clause-flow t c =
 pub returns-in_ok-taken-in-Some-clause-flow : goal.returns-in_ok-taken-in-Some-clause-flow
 returns-in_ok-taken-in-Some-clause-flow t c =
     let pipes = c.args.graph.now.pipes in
-    let flows = whole_flows pipes (bytes_at c.args.given.now) in
+    let flows = source_flows pipes (bytes_at c.args.given.now) in
     let own = c.at-own.result.now in
     let some : 0 < c.args.steps = omega arith in
     let is : is_source own.kind ≡ false = search rules in
