@@ -1,9 +1,10 @@
 -- What the pipes of a graph put out grows with what its sources give, and with the end of their flows.
+use Rattle.std.specs.Prelude.{unwrap_or}
 use Rattle.std.proofs.Common.{◌≡◌, ◌≤◌, ℕ, zero, suc, List, [], ◌++◌, All, Option, Some, None, slice_get, refl, sym, ap, ◌∙◌, length, subst}
 use Rattle.up_base.specs.Lists.{IsPrefix}
 use Rattle.up_model.proofs.EveryKind.{lawful}
 use Rattle.up_model.specs.Kinds.{IsWithinBounds, output_of, settled_output, share_of, module_kind, written_of}
-use Rattle.up_model.specs.Meaning.{Doing, wholly, so_far, selected, done_by, shared, taken_from, taken_by, work_at, flow_within, flow_by, bytes_by}
+use Rattle.up_model.specs.Meaning.{Doing, Feeding, IsFedMore, wholly, so_far, selected, done_by, shared, taken_from, taken_by, work_at, flow_within, flow_by}
 use Rattle.up_model.specs.Packet.{Flow, IsLegal}
 use Rattle.up_model.specs.declared.kind.Kind.{Kind}
 use Rattle.up_model.specs.declared.kind.Kind.TheVariants.{Source}
@@ -17,10 +18,20 @@ GrowsTo less more = (place : ℕ) (kind : Kind) (a b : Flow) → IsWithinBounds 
 abbrev pub AreBounded : List Pipe → Type 0
 AreBounded pipes = (place : ℕ) (pipe : Pipe) → slice_get pipes place ≡ Some pipe → IsWithinBounds (module_kind (selected pipes place) pipe.kind)
 
-put_grows : (less more : Doing) → GrowsTo less more → (place : ℕ) (kind : Kind) (own own' a b : Flow) → IsWithinBounds kind → IsPrefix own own' → IsPrefix a b
-    → IsPrefix (done_by less place kind own a).flow (done_by more place kind own' b).flow
-put_grows less more grows place (Source path form limit) own own' a b within owns takes = owns
-put_grows less more grows place kind own own' a b within owns takes = grows place kind a b within takes
+put_grows : (less more : Doing) → GrowsTo less more → (place : ℕ) (kind : Kind) (a b : Flow) → IsWithinBounds kind → IsPrefix a b
+    → IsPrefix (done_by less place kind a).flow (done_by more place kind b).flow
+put_grows less more grows place (Source path form limit) a b within takes = takes
+put_grows less more grows place kind a b within takes = grows place kind a b within takes
+
+-- the same pipes are fed, and each at least as much
+abbrev pub FeedsMore : Feeding → Feeding → Type 0
+FeedsMore fed fed' = (place : ℕ) → IsFedMore (fed place) (fed' place)
+
+fed_grows : (fed fed' : Option Flow) (a b : Flow) → IsFedMore fed fed' → IsPrefix a b → IsPrefix (unwrap_or fed a) (unwrap_or fed' b)
+fed_grows None None a b more takes = takes
+fed_grows None (Some flow) a b more takes = absurd more
+fed_grows (Some flow) None a b more takes = absurd more
+fed_grows (Some flow) (Some flow') a b more takes = more
 
 share_grows : (input : Option Pipe) (select : Option ℕ) (a b : Flow) → IsPrefix a b → IsPrefix (shared input select a) (shared input select b)
 share_grows None select a b longer = ([], refl)
@@ -35,17 +46,17 @@ module _ (pipes : List Pipe) where
   taken_grows flows flows' select (Some input) longer = share_grows (slice_get pipes input) select _ _ (longer input)
 
   module _ (less more : Doing) (grows : GrowsTo less more) (bounded : AreBounded pipes)
-      (given given' : ℕ → Flow) (gives : (place : ℕ) → IsPrefix (given place) (given' place)) where
+      (fed fed' : Feeding) (feeds : FeedsMore fed fed') where
     at_grows : (place : ℕ) (flows flows' : ℕ → Flow) (pipe : Option Pipe) → slice_get pipes place ≡ pipe
         → ((place : ℕ) → IsPrefix (flows place) (flows' place))
-        → IsPrefix (work_at less pipes given flows place pipe).flow (work_at more pipes given' flows' place pipe).flow
+        → IsPrefix (work_at less pipes fed flows place pipe).flow (work_at more pipes fed' flows' place pipe).flow
     at_grows place flows flows' None is longer = ([], refl)
     at_grows place flows flows' (Some pipe) is longer =
-        put_grows less more grows place (module_kind (selected pipes place) pipe.kind) (given place) (given' place) _ _ (bounded place pipe is) (gives place)
-        (taken_grows flows flows' pipe.select pipe.input longer)
+        put_grows less more grows place (module_kind (selected pipes place) pipe.kind) _ _ (bounded place pipe is)
+        (fed_grows (fed place) (fed' place) _ _ (feeds place) (taken_grows flows flows' pipe.select pipe.input longer))
 
-    -- whatever is given longer comes out longer, by induction along inputs
-    pub flows_grow : (steps place : ℕ) → IsPrefix (flow_within less pipes given steps place) (flow_within more pipes given' steps place)
+    -- whatever is fed longer comes out longer, by induction along inputs
+    pub flows_grow : (steps place : ℕ) → IsPrefix (flow_within less pipes fed steps place) (flow_within more pipes fed' steps place)
     flows_grow zero place = ([], refl)
     flows_grow (suc steps) place = at_grows place _ _ (slice_get pipes place) refl (flows_grow steps)
 
@@ -53,12 +64,6 @@ module _ (pipes : List Pipe) where
 pub written_grows : (kind : Kind) (a b : Flow) → IsWithinBounds kind → IsPrefix a b → IsPrefix (written_of kind a) (written_of kind b)
 written_grows kind a b within longer =
     subst (λ (f : Flow). IsPrefix (written_of kind a) (written_of kind f)) (sym longer.1) (((lawful kind).flows within).writes_on a longer.0)
-
-module _ (pipes : List Pipe) (less more : Doing) (grows : GrowsTo less more) (bounded : AreBounded pipes)
-    (given given' : ℕ → Flow) (gives : (place : ℕ) → IsPrefix (given place) (given' place)) where
-  pub bytes_grow : (sink : Pipe) → IsWithinBounds sink.kind → IsPrefix (bytes_by less pipes given sink) (bytes_by more pipes given' sink)
-  bytes_grow sink within =
-      written_grows sink.kind _ _ within (taken_grows pipes _ _ sink.select sink.input (flows_grow pipes less more grows bounded given given' gives (length pipes)))
 
 -- so what is settled grows as more is given
 pub so_far-grows : GrowsTo so_far so_far

@@ -12,7 +12,9 @@ pub mod EndsExamples
 pub mod EveryKind
 pub mod ExampleChain
 pub mod ExampleTree
+pub mod FedSources
 pub mod GraphFlows
+pub mod GrownBytes
 pub mod InputsExamples
 pub mod Joined
 pub mod Lawful

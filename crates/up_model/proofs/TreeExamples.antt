@@ -3,7 +3,7 @@ use Rattle.std.proofs.Common.{◌≡◌, true, false, List, ℕ, if◌then◌els
 use Rattle.std.specs.Prelude.{◌==◌, codes}
 use Rattle.up_model.proofs.ExampleChain.{pipe, raw_source}
 use Rattle.up_model.proofs.ExampleTree.{tree, given, archive, tails, other}
-use Rattle.up_model.specs.Meaning.{wholly, Doing, flow_at, flow_by, selected, tally_of, sink_bytes, settled_bytes}
+use Rattle.up_model.specs.Meaning.{wholly, Doing, to_sources, flow_at, flow_by, selected, tally_of, sink_bytes, settled_bytes}
 use Rattle.up_model.specs.Packet.{plain}
 use Rattle.up_model.specs.Work.{no_work}
 use Rattle.up_model.specs.declared.kind.Kind.TheVariants.{Idem, Skip}
@@ -21,7 +21,7 @@ settled_too = (refl, refl)
 abbrev stopped_at_dup : Doing
 stopped_at_dup place kind taken = if place == 4 then no_work else wholly place kind taken
 
-pub no_consumer_served : (flow_by stopped_at_dup tree given 5 ≡ []) × (flow_by stopped_at_dup tree given 4 ≡ []) × (flow_by stopped_at_dup tree given 2 ≡ plain (codes "xy") ∷ [])
+pub no_consumer_served : (flow_by stopped_at_dup tree (to_sources tree given) 5 ≡ []) × (flow_by stopped_at_dup tree (to_sources tree given) 4 ≡ []) × (flow_by stopped_at_dup tree (to_sources tree given) 2 ≡ plain (codes "xy") ∷ [])
 no_consumer_served = (refl, refl, refl)
 
 -- the second source feeds its own sink alone

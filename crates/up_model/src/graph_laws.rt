@@ -5,7 +5,7 @@ ghost use Rattle.up_base.specs.Lists.{IsPrefix};
 ghost use Rattle.up_model.specs.Ends.{is_source, path_of};
 ghost use Rattle.up_model.specs.Inputs.{PipeTest, reached_within, reached, source_of};
 ghost use Rattle.up_model.specs.Kinds.{IsWithinBounds};
-ghost use Rattle.up_model.specs.Meaning.{Doing, flow_by, pipe_work, flow_at, input_of, sink_bytes, settled_flow, settled_input, settled_bytes};
+ghost use Rattle.up_model.specs.Meaning.{Doing, Feeding, so_far, wholly, is_fed_by, to_sources, IsFedMore, MeetsAll, taken_at, flow_by, pipe_work, flow_at, input_of, sink_bytes, settled_flow, settled_input, settled_bytes};
 ghost use Rattle.up_model.specs.Outcomes.{carried_as, carried_flows, source_flow, source_flows};
 ghost use Rattle.up_model.specs.Packet.{Flow, IsLegal};
 ghost use Rattle.up_model.specs.WellFormed.{IsWellFormed};
@@ -34,24 +34,57 @@ pub fn more_steps_reach_no_other()
         → reached test pipes place ≡ Some found }
 {}
 
-/// What a pipe puts out is what it does with what it takes of what its input puts out.
+/// What a pipe puts out is what it does with what it takes, where along inputs it comes to a pipe that is fed; and whatever meets
+/// this at all such places is what they put out.
 pub fn flows_unroll()
-    ensures { (does : Doing) (pipes : List ThePipe) (given : ℕ → Flow) (place : ℕ)
-        → IsSome (source_of pipes place)
-        → flow_by does pipes given place ≡ (pipe_work does pipes given place).flow }
+    ensures meets { (does : Doing) (pipes : List ThePipe) (fed : Feeding) (place : ℕ)
+        → IsSome (reached (is_fed_by fed) pipes place)
+        → flow_by does pipes fed place ≡ (pipe_work does pipes fed place).flow }
+    ensures alone { (does : Doing) (pipes : List ThePipe) (fed : Feeding) (flows : ℕ → Flow)
+        → MeetsAll does pipes fed flows → (place : ℕ)
+        → IsSome (reached (is_fed_by fed) pipes place)
+        → flows place ≡ flow_by does pipes fed place }
 {}
 
-/// What is settled of given flows is a prefix of what is settled of longer ones, and of what comes of these in all.
+/// A graph is fed at its sources: something fed is reached where the source is, and longer flows are fed more.
+pub fn sources_are_fed()
+    ensures reached { (pipes : List ThePipe) (given : ℕ → Flow) (place : ℕ)
+        → reached (is_fed_by (to_sources pipes given)) pipes place ≡ source_of pipes place }
+    ensures more { (pipes : List ThePipe) (given more : ℕ → Flow)
+        → ((source : ℕ) → IsPrefix (given source) (more source)) → (place : ℕ)
+        → IsFedMore (to_sources pipes given place) (to_sources pipes more place) }
+{}
+
+/// What a pipe puts out is said by its own source alone, whatever all others carry.
+pub fn a_source_feeds_its_own_pipes()
+    ensures { (does : Doing) (pipes : List ThePipe) (given other : ℕ → Flow) (place source : ℕ)
+        → source_of pipes place ≡ Some source → other source ≡ given source
+        → flow_by does pipes (to_sources pipes other) place
+        ≡ flow_by does pipes (to_sources pipes given) place }
+{}
+
+/// A graph that is cut anywhere puts out the same, where each pipe that is then fed is fed what it takes of the whole.
+pub fn a_cut_changes_nothing()
+    ensures { (does : Doing) (pipes : List ThePipe) (fed cut : Feeding)
+        → ((place : ℕ) → place < length pipes → IsSome (reached (is_fed_by fed) pipes place))
+        → ((place : ℕ) (pipe : ThePipe) → slice_get pipes place ≡ Some pipe
+        → taken_at does pipes cut (flow_by does pipes fed) place pipe
+        ≡ taken_at does pipes fed (flow_by does pipes fed) place pipe)
+        → (place : ℕ) → place < length pipes → IsSome (reached (is_fed_by cut) pipes place)
+        → flow_by does pipes fed place ≡ flow_by does pipes cut place }
+{}
+
+/// What is settled of what is fed is a prefix of what is settled of more, and of what comes of that in all.
 pub fn settled_flows_grow()
-    ensures longer { (pipes : List ThePipe) (given more : ℕ → Flow) (place : ℕ) → IsWellFormed pipes
-        → ((source : ℕ) → IsPrefix (given source) (more source))
-        → IsPrefix (settled_flow pipes given place) (settled_flow pipes more place) }
-    ensures whole { (pipes : List ThePipe) (given more : ℕ → Flow) (place : ℕ) → IsWellFormed pipes
-        → ((source : ℕ) → IsPrefix (given source) (more source))
-        → IsPrefix (settled_flow pipes given place) (flow_at pipes more place) }
+    ensures longer { (pipes : List ThePipe) (fed more : Feeding) (place : ℕ) → IsWellFormed pipes
+        → ((at : ℕ) → IsFedMore (fed at) (more at))
+        → IsPrefix (flow_by so_far pipes fed place) (flow_by so_far pipes more place) }
+    ensures whole { (pipes : List ThePipe) (fed more : Feeding) (place : ℕ) → IsWellFormed pipes
+        → ((at : ℕ) → IsFedMore (fed at) (more at))
+        → IsPrefix (flow_by so_far pipes fed place) (flow_by wholly pipes more place) }
 {}
 
-/// So are the bytes that are settled for a pipe, a sink's.
+/// So are the bytes that are settled for a sink, where each source carries at least as much.
 pub fn settled_bytes_grow()
     ensures longer { (pipes : List ThePipe) (given more : ℕ → Flow) (sink : ThePipe)
         → IsWellFormed pipes → IsWithinBounds sink.kind

@@ -1,5 +1,5 @@
 ghost use Rattle.std.specs.Prelude.{◌≡◌, length, All, IfOk};
-ghost use Rattle.up_model.specs.Meaning.{wholly, flow_within};
+ghost use Rattle.up_model.specs.Meaning.{wholly, to_sources, flow_within};
 ghost use Rattle.up_model.specs.Outcomes.{source_flows, bytes_at};
 ghost use Rattle.up_model.specs.Packet.{IsLegal};
 ghost use Rattle.up_model.specs.WellFormed.{IsWellFormed};
@@ -18,8 +18,8 @@ pub(crate) fn flow_within(
 ) -> Result<PacketList, NoMemory>
     requires well_formed { IsWellFormed graph.now.pipes }
     requires each { length given.now ≡ length graph.now.pipes }
-    ensures flow { let flows = source_flows graph.now.pipes (bytes_at given.now) in
-        IfOk result (λ put. put ≡ flow_within wholly graph.now.pipes flows steps place) }
+    ensures flow { let fed = to_sources graph.now.pipes (source_flows graph.now.pipes (bytes_at given.now)) in
+        IfOk result (λ put. put ≡ flow_within wholly graph.now.pipes fed steps place) }
     ensures legal { IfOk result (All IsLegal) }
 {
     if steps == 0 || graph.pipes.len() <= place {

@@ -5,9 +5,9 @@ use Rattle.up_model.specs.Meaning.{so_far, wholly}
 use Rattle.up_model.proofs.graph_laws.settled_flows_grow.Goals as goal
 
 pub returns-clause-longer : goal.returns-clause-longer
-returns-clause-longer c pipes given more place well gives =
-    flows_grow pipes so_far so_far so_far-grows (are_bounded pipes well) given more gives (length pipes) place
+returns-clause-longer c pipes fed more place well feeds =
+    flows_grow pipes so_far so_far so_far-grows (are_bounded pipes well) fed more feeds (length pipes) place
 
 pub returns-clause-whole : goal.returns-clause-whole
-returns-clause-whole c pipes given more place well gives =
-    flows_grow pipes so_far wholly so_far-wholly (are_bounded pipes well) given more gives (length pipes) place
+returns-clause-whole c pipes fed more place well feeds =
+    flows_grow pipes so_far wholly so_far-wholly (are_bounded pipes well) fed more feeds (length pipes) place
