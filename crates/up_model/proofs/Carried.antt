@@ -35,9 +35,9 @@ pub carried_are_legal : (outcome : Outcome) (kind : Kind) (bytes : List ℕ) →
 carried_are_legal Whole kind bytes within = whole_is_legal kind bytes within
 carried_are_legal ReadFault kind bytes within = so_far_is_legal kind bytes within
 carried_are_legal (TooLong limit) kind bytes within = so_far_is_legal kind (take limit bytes) within
-carried_are_legal WriteFault kind bytes within = All-nil IsLegal
-carried_are_legal Broken kind bytes within = All-nil IsLegal
-carried_are_legal NoMemory kind bytes within = All-nil IsLegal
+carried_are_legal WriteFault kind bytes within = so_far_is_legal kind bytes within
+carried_are_legal Broken kind bytes within = so_far_is_legal kind bytes within
+carried_are_legal NoMemory kind bytes within = so_far_is_legal kind bytes within
 
 -- what a source has whatever comes after its bytes comes first of all that it has
 so_far_first : (kind : Kind) (bytes more : List ℕ) → IsWithinBounds kind → IsPrefix (settled_source_flow kind bytes) (source_flow kind (bytes ++ more))
@@ -55,6 +55,6 @@ carried_is_first (TooLong limit) kind bytes more within whole =
     let all : take limit bytes ++ (drop limit bytes ++ more) ≡ bytes ++ more =
     sym (append_assoc (take limit bytes) (drop limit bytes) more) ∙ ap (λ l. l ++ more) (take-append-drop limit bytes) in
     subst (λ (l : List ℕ). IsPrefix (settled_source_flow kind (take limit bytes)) (source_flow kind l)) all (so_far_first kind (take limit bytes) (drop limit bytes ++ more) within)
-carried_is_first WriteFault kind bytes more within whole = (source_flow kind (bytes ++ more), refl)
-carried_is_first Broken kind bytes more within whole = (source_flow kind (bytes ++ more), refl)
-carried_is_first NoMemory kind bytes more within whole = (source_flow kind (bytes ++ more), refl)
+carried_is_first WriteFault kind bytes more within whole = so_far_first kind bytes more within
+carried_is_first Broken kind bytes more within whole = so_far_first kind bytes more within
+carried_is_first NoMemory kind bytes more within whole = so_far_first kind bytes more within

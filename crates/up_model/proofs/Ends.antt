@@ -2,7 +2,7 @@
 use Rattle.std.proofs.Common.{ℕ, [], ◌++◌, List, refl, arith, length-append}
 use Rattle.std.proofs.lemmas.List.Elements.{All-nil}
 use Rattle.up_base.specs.Lists.{IsPrefix}
-use Rattle.up_model.proofs.Lawful.{IsLawful, KeepsFlows, no_options_kept, whole_shares}
+use Rattle.up_model.proofs.Lawful.{IsLawful, KeepsFlows, no_options_kept, stands_for_itself}
 use Rattle.up_model.proofs.Joined.{joined-append}
 use Rattle.up_model.specs.Ends.{end_meaning, written_by}
 use Rattle.up_model.specs.Packet.{Flow, IsLegal, joined}
@@ -50,12 +50,12 @@ pub source_is_lawful : (path : List ℕ) (form : SourceForm) (limit : ℕ) → I
 source_is_lawful path form limit = record {
   flows = λ within. ends_keep _ _ _ (λ taken more. ([], refl));
   options = no_options_kept (Source path form limit) (λ option. refl);
-  shares = whole_shares (Source path form limit) (λ select flow. refl) (λ numbers. refl);
+  stand_in = stands_for_itself (Source path form limit) (λ numbers. refl);
 }
 
 pub sink_is_lawful : (path : List ℕ) (form : SinkForm) → IsLawful (Sink path form)
 sink_is_lawful path form = record {
   flows = λ within. ends_keep _ _ _ (sink_writes_on form);
   options = no_options_kept (Sink path form) (λ option. refl);
-  shares = whole_shares (Sink path form) (λ select flow. refl) (λ numbers. refl);
+  stand_in = stands_for_itself (Sink path form) (λ numbers. refl);
 }

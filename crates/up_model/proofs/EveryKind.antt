@@ -2,7 +2,7 @@
 use Rattle.std.proofs.Common.{refl}
 use Rattle.up_model.proofs.DelAttr.{delattr_is_lawful}
 use Rattle.up_model.proofs.Ends.{source_is_lawful, sink_is_lawful}
-use Rattle.up_model.proofs.Lawful.{IsLawful, by_packets, no_options_kept, whole_shares}
+use Rattle.up_model.proofs.Lawful.{IsLawful, by_packets, no_options_kept, stands_for_itself}
 use Rattle.up_model.proofs.Skip.{skip_is_lawful}
 use Rattle.up_model.specs.KindMeaning.{no_options}
 use Rattle.up_model.specs.Packetwise.{passes_on, drops}
@@ -14,21 +14,21 @@ idem_is_lawful : IsLawful Idem
 idem_is_lawful = record {
   flows = λ within. by_packets (Unit {0}) passes_on no_options fans.One (λ packet legal. legal);
   options = no_options_kept Idem (λ option. refl);
-  shares = whole_shares Idem (λ select flow. refl) (λ numbers. refl);
+  stand_in = stands_for_itself Idem (λ numbers. refl);
 }
 
 null_is_lawful : IsLawful Null
 null_is_lawful = record {
   flows = λ within. by_packets (Unit {0}) drops no_options fans.None (λ packet legal. tt);
   options = no_options_kept Null (λ option. refl);
-  shares = whole_shares Null (λ select flow. refl) (λ numbers. refl);
+  stand_in = stands_for_itself Null (λ numbers. refl);
 }
 
 dup_is_lawful : IsLawful Dup
 dup_is_lawful = record {
   flows = λ within. by_packets (Unit {0}) passes_on no_options fans.All (λ packet legal. legal);
   options = no_options_kept Dup (λ option. refl);
-  shares = whole_shares Dup (λ select flow. refl) (λ numbers. refl);
+  stand_in = stands_for_itself Dup (λ numbers. refl);
 }
 
 pub lawful : (kind : Kind) → IsLawful kind

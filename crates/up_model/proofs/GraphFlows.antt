@@ -3,7 +3,8 @@ use Rattle.std.specs.Prelude.{unwrap_or}
 use Rattle.std.proofs.Common.{◌≡◌, ◌≤◌, ℕ, zero, suc, List, [], ◌++◌, All, Option, Some, None, slice_get, refl, sym, ap, ◌∙◌, length, subst}
 use Rattle.up_base.specs.Lists.{IsPrefix}
 use Rattle.up_model.proofs.EveryKind.{lawful}
-use Rattle.up_model.specs.Kinds.{IsWithinBounds, output_of, settled_output, share_of, module_kind, written_of}
+use Rattle.up_model.proofs.Shares.{share_longer}
+use Rattle.up_model.specs.Kinds.{fan_out_of, IsWithinBounds, output_of, settled_output, share_of, module_kind, written_of}
 use Rattle.up_model.specs.Meaning.{Doing, Feeding, IsFedMore, wholly, so_far, selected, done_by, shared, taken_from, taken_by, work_at, flow_within, flow_by}
 use Rattle.up_model.specs.Packet.{Flow, IsLegal}
 use Rattle.up_model.specs.declared.kind.Kind.{Kind}
@@ -37,7 +38,7 @@ share_grows : (input : Option Pipe) (select : Option ℕ) (a b : Flow) → IsPre
 share_grows None select a b longer = ([], refl)
 share_grows (Some input) select a b longer =
     subst (λ (f : Flow). IsPrefix (share_of input.kind select a) (share_of input.kind select f)) (sym longer.1)
-    ((lawful input.kind).shares.longer select a longer.0)
+    (share_longer (fan_out_of input.kind) select a longer.0)
 
 module _ (pipes : List Pipe) where
   pub taken_grows : (flows flows' : ℕ → Flow) (select input : Option ℕ) → ((place : ℕ) → IsPrefix (flows place) (flows' place))

@@ -4,7 +4,7 @@ use Rattle.std.specs.Prelude.{MatchOption}
 use Rattle.up_base.specs.Lists.{IsPrefix}
 use Rattle.up_model.proofs.Packetwise.{passed-append, summed-grows, work_counts, KeepsLegal, passed_is_legal}
 use Rattle.up_model.specs.KindMeaning.{KindMeaning, Setting, admits}
-use Rattle.up_model.specs.Kinds.{IsWithinBounds, meaning_of, setting_of, share_of, module_kind}
+use Rattle.up_model.specs.Kinds.{IsWithinBounds, meaning_of, setting_of, module_kind}
 use Rattle.up_model.specs.OptionValues.{IsSet}
 use Rattle.up_model.specs.Packet.{Flow, IsLegal}
 use Rattle.up_model.specs.Packetwise.{Step, packetwise, passed}
@@ -37,16 +37,14 @@ pub record KeepsOptions (kind : Kind) : Type 0 where
   pub set : (option : Opt) (setting : Setting) (value : ℤ) → setting_of kind option ≡ Some setting → admits setting value ≡ true
       → IsSet option value kind (setting.set value)
 
--- a share grows with the output and is legal where that is, and a kind that stands in is within its bounds
-pub record KeepsShares (kind : Kind) : Type 0 where
-  pub longer : (select : Option ℕ) (front more : Flow) → IsPrefix (share_of kind select front) (share_of kind select (front ++ more))
-  pub legal : (select : Option ℕ) (flow : Flow) → All IsLegal flow → All IsLegal (share_of kind select flow)
-  pub within : (numbers : List ℕ) → IsWithinBounds kind → All (λ number. number ≤ MAX_PID) numbers → IsWithinBounds (module_kind numbers kind)
+-- a kind that stands in is within its bounds
+abbrev pub KeepsBounds : Kind → Type 0
+KeepsBounds kind = (numbers : List ℕ) → IsWithinBounds kind → All (λ number. number ≤ MAX_PID) numbers → IsWithinBounds (module_kind numbers kind)
 
 pub record IsLawful (kind : Kind) : Type 0 where
   pub flows : IsWithinBounds kind → KeepsFlows (meaning_of kind)
   pub options : KeepsOptions kind
-  pub shares : KeepsShares kind
+  pub stand_in : KeepsBounds kind
 
 -- a kind that looks at each packet by itself
 pub by_packets : (IsWithin : Type 0) (step : Step) (setting : Opt → Option Setting) (fan_out : FanOut) → KeepsLegal step
@@ -77,11 +75,6 @@ no_options_kept kind none = record {
   set = λ option setting value is admitted. absurd (not_some setting (rw (none option) at is));
 }
 
--- a kind whose consumers take its whole output, and whose module has its own kind
-pub whole_shares : (kind : Kind) → ((select : Option ℕ) (flow : Flow) → share_of kind select flow ≡ flow)
-    → ((numbers : List ℕ) → module_kind numbers kind ≡ kind) → KeepsShares kind
-whole_shares kind whole own = record {
-  longer = λ select front more. rw (whole select front, whole select (front ++ more)) (more, refl);
-  legal = λ select flow legal. rw (whole select flow) legal;
-  within = λ numbers within pids. rw (own numbers) within;
-}
+-- a kind whose module has its own kind
+pub stands_for_itself : (kind : Kind) → ((numbers : List ℕ) → module_kind numbers kind ≡ kind) → KeepsBounds kind
+stands_for_itself kind own numbers within pids = rw (own numbers) within

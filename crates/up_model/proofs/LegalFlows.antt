@@ -4,7 +4,8 @@ use Rattle.std.proofs.Common.{◌≡◌, ℕ, zero, suc, List, [], ◌∷◌, �
 use Rattle.std.proofs.lemmas.List.Elements.{All-nil, All-cons, All-head, All-tail}
 use Rattle.up_model.proofs.EveryKind.{lawful}
 use Rattle.up_model.proofs.GraphFlows.{AreBounded}
-use Rattle.up_model.specs.Kinds.{IsWithinBounds, output_of, settled_output, module_kind}
+use Rattle.up_model.proofs.Shares.{share_legal}
+use Rattle.up_model.specs.Kinds.{fan_out_of, IsWithinBounds, output_of, settled_output, module_kind}
 use Rattle.up_model.specs.Meaning.{Doing, Feeding, wholly, so_far, selected, done_by, shared, taken_from, taken_by, work_at, flow_within, flow_by}
 use Rattle.up_model.specs.Packet.{Flow, IsLegal}
 use Rattle.up_model.specs.declared.kind.Kind.{Kind}
@@ -26,7 +27,7 @@ fed_is_legal (Some flow) taken legal takes = legal flow refl
 
 share_is_legal : (input : Option Pipe) (select : Option ℕ) (flow : Flow) → All IsLegal flow → All IsLegal (shared input select flow)
 share_is_legal None select flow legal = All-nil IsLegal
-share_is_legal (Some input) select flow legal = (lawful input.kind).shares.legal select flow legal
+share_is_legal (Some input) select flow legal = share_legal (fan_out_of input.kind) select flow legal
 
 module _ (pipes : List Pipe) where
   taken_is_legal : (flows : ℕ → Flow) (select input : Option ℕ) → ((place : ℕ) → All IsLegal (flows place)) → All IsLegal (taken_from pipes flows select input)

@@ -33,6 +33,7 @@ pub mod PlainFlows
 pub mod PlainKinds
 pub mod PlainLegal
 pub mod PlainSteps
+pub mod Shares
 pub mod Skip
 pub mod SkipExamples
 pub mod SortedEntries

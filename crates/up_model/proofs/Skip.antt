@@ -4,7 +4,7 @@ use Rattle.std.proofs.lemmas.Bool.{leb-true, le-leb, false≢true}
 use Rattle.std.specs.Prelude.{nat_le, int_le, ◌&&◌, unwrap_or}
 use Rattle.std.specs.Cmp.Derive.{both_true}
 use Rattle.std.specs.Int.RustNames.{unsigned_abs}
-use Rattle.up_model.proofs.Lawful.{IsLawful, KeepsOptions, by_packets, not_some, whole_shares}
+use Rattle.up_model.proofs.Lawful.{IsLawful, KeepsOptions, by_packets, not_some, stands_for_itself}
 use Rattle.up_model.proofs.Packetwise.{KeepsLegal, IsCutOf}
 use Rattle.up_model.specs.KindMeaning.{Setting, admits}
 use Rattle.up_model.specs.Kinds.{setting_of}
@@ -88,5 +88,5 @@ pub skip_is_lawful : (count : ℕ) → IsLawful (Skip count)
 skip_is_lawful count = record {
   flows = λ within. by_packets _ (skip_step count) (skip_setting count) fans.One (skip_step_is_legal count);
   options = options_are_kept count;
-  shares = whole_shares (Skip count) (λ select flow. refl) (λ numbers. refl);
+  stand_in = stands_for_itself (Skip count) (λ numbers. refl);
 }

@@ -1,11 +1,12 @@
 -- What a well-formed graph keeps, a rule at a time.
-use Rattle.std.proofs.Common.{◌≡◌, ℕ, zero, suc, ◌+◌, ◌<◌, ◌≤◌, Bool, true, false, not, cond, ltb, List, [], ◌∷◌, All, length, take, get_or, Option, Some, None, slice_get, refl, sym, ap, ◌∙◌, subst, arith, inl, inr}
-use Rattle.std.specs.Prelude.{option_map, option_and_then, ◌==◌, position, nat_le, filter_map, if◌then◌else◌}
+use Rattle.std.proofs.Common.{◌≡◌, ℕ, zero, suc, ◌+◌, ◌<◌, ◌≤◌, ◌⊎◌, Bool, true, false, not, cond, ltb, List, [], ◌∷◌, All, length, take, get_or, Option, Some, None, slice_get, refl, sym, ap, ◌∙◌, subst, arith, inl, inr}
+use Rattle.std.specs.Prelude.{option_map, option_and_then, ◌==◌, ◌&&◌, position, nat_le, nat_lt, filter_map, if◌then◌else◌}
 use Rattle.std.specs.List.{range_with_len, position_or_len, cons_option, list_any}
 use Rattle.std.specs.Str.{bytes_eq}
 use Rattle.std.specs.Option.{IsSome, is_some, option_map_or}
-use Rattle.std.proofs.lemmas.Bool.{cases_lt, lt-ltb, le-leb}
+use Rattle.std.proofs.lemmas.Bool.{cases_lt, lt-ltb, le-leb, leb-false, eqb-false, ltb-true, cases_Bool}
 use Rattle.std.proofs.lemmas.List.Elements.{All-nil, All-cons, All-head, All-tail, All-get_or}
+use Rattle.std.proofs.lemmas.List.Quantifiers.{position-Some}
 use Rattle.std.proofs.lemmas.List.FromFn.{get_or-range_with_len, length-range_with_len}
 use Rattle.std.proofs.lemmas.List.{get_or-take, length-take-le}
 use Rattle.std.proofs.lemmas.List.Folds.{list_any_at}
@@ -15,14 +16,18 @@ use Rattle.std.proofs.lemmas.Option.{get_or_from_slice_get, slice_get_within}
 use Rattle.up_model.proofs.EveryKind.{lawful}
 use Rattle.up_model.proofs.GraphFlows.{AreBounded}
 use Rattle.up_model.proofs.Steps.{found_passes}
-use Rattle.up_model.specs.Ends.{is_source}
-use Rattle.up_model.specs.Inputs.{PipeTest, passes_at, places, first_place, ends_at_source, source_of}
-use Rattle.up_model.specs.Kinds.{IsWithinBounds}
+use Rattle.up_model.specs.Ends.{is_source, is_one_path, path_of, same_path}
+use Rattle.up_model.specs.Inputs.{PipeTest, passes_at, places, first_place, consumer_count, input_pipe, ends_at_source, source_of}
+use Rattle.up_model.specs.Kinds.{IsWithinBounds, fan_out_of}
+use Rattle.up_model.specs.Rules.{ComesToSource, FeedsRightly, TakesRightly, IsFirst, IsTold}
+use Rattle.up_model.specs.declared.fan_out.FanOut.{FanOut}
+use Rattle.up_model.specs.declared.fan_out.FanOut.TheVariants as fans
+use Rattle.up_model.specs.declared.kind.Kind.{Kind}
 use Rattle.up_model.specs.Meaning.{selects, selected}
-use Rattle.up_model.specs.WellFormed.{has_same_name, has_unknown_input, has_cycle, has_many_outputs, has_no_output, has_wrong_flow, has_same_path, worker_places, worker_fault, first_of, graph_faults, graph_fault, IsPipe, IsWellFormed}
+use Rattle.up_model.specs.WellFormed.{has_same_name, has_unknown_input, has_cycle, has_many_outputs, has_no_output, has_wrong_flow, has_same_path, are_too_many, are_too_few, is_wrong_for, worker_places, worker_fault, first_of, graph_faults, graph_fault, IsPipe, IsWellFormed}
 use Rattle.up_model.specs.declared.graph_fault.GraphFault.{GraphFault}
-use Rattle.up_model.specs.declared.graph_fault.GraphFault.TheVariants.{SameName, UnknownInput, Cycle, ManyOutputs, NoOutput, WrongFlow, SamePath}
-use Rattle.up_model.specs.declared.limits.TheConstants.{MAX_PID}
+use Rattle.up_model.specs.declared.graph_fault.GraphFault.TheVariants.{SameName, UnknownInput, Cycle, ManyOutputs, NoOutput, WrongFlow, SamePath, TooManyWorkers}
+use Rattle.up_model.specs.declared.limits.TheConstants.{MAX_PID, MAX_WORKERS}
 use Rattle.up_model.specs.declared.pipe.Pipe.{Pipe}
 
 -- what stands at a place of the list
@@ -124,13 +129,50 @@ selected_are place (pipe ∷ pipes) each =
     (λ number is. selected_of place pipe number (All-head IsPipe pipe pipes each).select is)
     (selected_are place pipes (All-tail IsPipe pipe pipes each))
 
+rightly_fed : (fan_out : FanOut) (count : ℕ) → are_too_many fan_out count ≡ false → are_too_few fan_out count ≡ false → FeedsRightly fan_out count
+rightly_fed fans.None count many few = tt
+rightly_fed fans.One count many few = between count (nat_le 2 count) refl many (count == 0) refl few
+  where
+    between : (count : ℕ) (b : Bool) → nat_le 2 count ≡ b → b ≡ false → (e : Bool) → (count == 0) ≡ e → e ≡ false → count ≡ 1
+    between count b is few e same some = omega (arith, leb-false 2 count (is ∙ few), eqb-false count 0 (same ∙ some))
+rightly_fed fans.All count many few = omega (arith, eqb-false count 0 few)
+rightly_fed fans.Selected count many few = omega (arith, eqb-false count 0 few)
+
+rightly_taken : (fan_out : FanOut) (select : Option ℕ) → is_wrong_for fan_out select ≡ false → TakesRightly fan_out select
+rightly_taken fans.None select right = absurd (cc)
+rightly_taken fans.One None right = refl
+rightly_taken fans.One (Some number) right = absurd (cc)
+rightly_taken fans.All None right = refl
+rightly_taken fans.All (Some number) right = absurd (cc)
+rightly_taken fans.Selected None right = absurd (cc)
+rightly_taken fans.Selected (Some number) right = refl
+
+-- two pipes of one path clash where one of them is no source
+clash : (a b : Kind) (path : List ℕ) → path_of a ≡ Some path → path_of b ≡ Some path → (is_source a ≡ false) ⊎ (is_source b ≡ false) → same_path a b ≡ true
+clash a b path of of_other free =
+    let one : is_one_path (path_of a) (path_of b) ≡ true = rw (of, of_other) ((bytes_eq-Decides path path).1 refl) in
+    rw (not_both (is_source a) (is_source b) free, one) refl
+  where
+    not_both : (a b : Bool) → (a ≡ false) ⊎ (b ≡ false) → not (a && b) ≡ true
+    not_both true true free = absurd (elim free [ inl is ↦ cc | inr is ↦ cc ])
+    not_both true false free = refl
+    not_both false b free = refl
+
+at_most : (count : ℕ) → worker_fault count ≡ None → count ≤ MAX_WORKERS
+at_most count none =
+    elim (cases_lt MAX_WORKERS count) [
+      | inl more ↦ absurd (let many : nat_lt MAX_WORKERS count ≡ true = lt-ltb MAX_WORKERS count more in
+          let some : Some (TooManyWorkers count) ≡ None = rw many at none in cc)
+      | inr few ↦ few
+    ]
+
 module _ (pipes : List Pipe) (well : IsWellFormed pipes) where
   pub is_pipe : (place : ℕ) (pipe : Pipe) → slice_get pipes place ≡ Some pipe → IsPipe pipe
   is_pipe place pipe is =
       subst IsPipe (get_or_from_slice_get pipes place pipe pipe is) (All-get_or IsPipe pipes place pipe (slice_get_within pipes place pipe is) well.each)
 
   pub are_bounded : AreBounded pipes
-  are_bounded place pipe is = (lawful pipe.kind).shares.within (selected pipes place) (is_pipe place pipe is).kind (selected_are place pipes well.each)
+  are_bounded place pipe is = (lawful pipe.kind).stand_in (selected pipes place) (is_pipe place pipe is).kind (selected_are place pipes well.each)
 
   -- from each place a source is reached
   pub has_source : (place : ℕ) → place < length pipes → IsSome (source_of pipes place)
@@ -171,13 +213,105 @@ module _ (pipes : List Pipe) (well : IsWellFormed pipes) where
         ]
       ]
 
-  pub comes_to_source : (place : ℕ) → place < length pipes → (source : ℕ) × (pipe : Pipe)
-      × (source_of pipes place ≡ Some source) × (slice_get pipes source ≡ Some pipe) × (is_source pipe.kind ≡ true)
+  pub comes_to_source : (place : ℕ) → place < length pipes → ComesToSource pipes place
   comes_to_source place within =
       let found = reached_place (source_of pipes place) (has_source place within) in
       let at = found_passes ends_at_source pipes (length pipes) place found.0 found.1 in
-      (found.0, at.0, found.1, at.1, at.2)
+      record { source = found.0; pipe = at.0; reached = found.1; stands = at.1; is = at.2 }
     where
       reached_place : (o : Option ℕ) → IsSome o → (n : ℕ) × (o ≡ Some n)
       reached_place None some = absurd (cc)
       reached_place (Some n) some = (n, refl)
+
+  pub feeds_rightly : (place : ℕ) (pipe : Pipe) → slice_get pipes place ≡ Some pipe → FeedsRightly (fan_out_of pipe.kind) (consumer_count pipes place)
+  feeds_rightly place pipe is =
+      rightly_fed (fan_out_of pipe.kind) (consumer_count pipes place)
+      (nowhere has_many_outputs pipes (no_fault pipes well.faultless).many_outputs place pipe is)
+      (nowhere has_no_output pipes (no_fault pipes well.faultless).no_output place pipe is)
+
+  pub takes_rightly : (place at : ℕ) (pipe input : Pipe) → slice_get pipes place ≡ Some pipe → pipe.input ≡ Some at → slice_get pipes at ≡ Some input
+      → TakesRightly (fan_out_of input.kind) pipe.select
+  takes_rightly place at pipe input is of there =
+      let fails : has_wrong_flow pipes place pipe ≡ false = nowhere has_wrong_flow pipes (no_fault pipes well.faultless).wrong_flow place pipe is in
+      let found : input_pipe pipes pipe ≡ Some input = ap (option_and_then (slice_get pipes)) of ∙ there in
+      rightly_taken (fan_out_of input.kind) pipe.select
+      (subst (λ (o : Option Pipe). option_map_or (λ (input : Pipe). is_wrong_for (fan_out_of input.kind) pipe.select) o false ≡ false) found fails)
+
+  -- an earlier pipe has another path, unless both are sources
+  earlier_path : (a b : ℕ) (one other : Pipe) → slice_get pipes a ≡ Some one → slice_get pipes b ≡ Some other → same_path one.kind other.kind ≡ true → a < b → ⊥
+  earlier_path a b one other is also same before =
+      let fails : list_any (λ earlier. same_path earlier.kind other.kind) (take b pipes) ≡ false =
+      nowhere has_same_path pipes (no_fault pipes well.faultless).same_path b other also in
+      let there : get_or (take b pipes) a other ≡ one = get_or-take b pipes a other before ∙ get_or_from_slice_get pipes a one other is in
+      let short : length (take b pipes) ≡ b = length-take-le b pipes (omega (arith, slice_get_within pipes b other also)) in
+      let found : list_any (λ earlier. same_path earlier.kind other.kind) (take b pipes) ≡ true =
+      list_any_at (λ earlier. same_path earlier.kind other.kind) (take b pipes) a other (omega (arith, before, short)) (rw there same) in
+      cc
+
+  pub paths_differ : (a b : ℕ) (one other : Pipe) (path : List ℕ) → slice_get pipes a ≡ Some one → slice_get pipes b ≡ Some other
+      → path_of one.kind ≡ Some path → path_of other.kind ≡ Some path → is_source one.kind ≡ false → a ≡ b
+  paths_differ a b one other path is also of of_other free =
+      elim (cases_lt a b) [
+        | inl before ↦ absurd (earlier_path a b one other is also (clash one.kind other.kind path of of_other (inl free)) before)
+        | inr after ↦ elim (cases_lt b a) [
+          | inl before ↦ absurd (earlier_path b a other one also is (clash other.kind one.kind path of_other of (inr free)) before)
+          | inr equal ↦ omega (arith, after, equal)
+        ]
+      ]
+
+  pub few_workers : length (worker_places pipes) ≤ MAX_WORKERS
+  few_workers = at_most (length (worker_places pipes)) (no_fault pipes well.faultless).workers
+
+-- the first place that passes
+first_is : (test : PipeTest) (pipes : List Pipe) (place : ℕ) → first_place test pipes ≡ Some place → IsFirst test pipes place
+first_is test pipes place is =
+    let found = position-Some (passes_at test pipes) (places pipes) place 0 is in
+    let stands : place < length pipes = omega (arith, found.0, length-range_with_len 0 (length pipes)) in
+    let at : (k : ℕ) → k < length pipes → get_or (places pipes) k 0 ≡ k =
+    λ k within. get_or-range_with_len 0 (length pipes) k 0 within ∙ (omega arith) in
+    record {
+      stands = stands;
+      passes = subst (λ (p : ℕ). passes_at test pipes p ≡ true) (at place stands) found.1;
+      none_before = λ before earlier. subst (λ (p : ℕ). passes_at test pipes p ≡ false) (at before (omega (arith, earlier, stands))) (found.2 before earlier);
+    }
+
+-- what each fault in the list would tell
+abbrev TellsAll : List Pipe → List (Option GraphFault) → Type 0
+TellsAll pipes [] = Unit {0}
+TellsAll pipes (fault ∷ faults) = ((told : GraphFault) → fault ≡ Some told → IsTold pipes told) × TellsAll pipes faults
+
+first_told : (pipes : List Pipe) (faults : List (Option GraphFault)) (fault : GraphFault) → TellsAll pipes faults → first_of faults ≡ Some fault → IsTold pipes fault
+first_told pipes [] fault tells is = absurd (cc)
+first_told pipes (None ∷ faults) fault tells is = first_told pipes faults fault tells.1 is
+first_told pipes (Some here ∷ faults) fault tells is = tells.0 fault is
+
+told_by : (pipes : List Pipe) (of : ℕ → GraphFault) (test : PipeTest) → ((place : ℕ) → IsFirst test pipes place → IsTold pipes (of place))
+    → (told : GraphFault) → option_map of (first_place test pipes) ≡ Some told → IsTold pipes told
+told_by pipes of test tells told is = by_place (first_place test pipes) refl is
+  where
+    by_place : (found : Option ℕ) → first_place test pipes ≡ found → option_map of found ≡ Some told → IsTold pipes told
+    by_place None at is = absurd (cc)
+    by_place (Some place) at is = subst (IsTold pipes) (same (of place) told is) (tells place (first_is test pipes place at))
+      where
+        same : (a b : GraphFault) → Some a ≡ Some b → a ≡ b
+        same a b is = cc
+
+many_told : (pipes : List Pipe) (told : GraphFault) → worker_fault (length (worker_places pipes)) ≡ Some told → IsTold pipes told
+many_told pipes told is =
+    let count = length (worker_places pipes) in
+    elim (cases_Bool (nat_lt MAX_WORKERS count)) [
+      | inl many ↦
+          let tells : Some (TooManyWorkers count) ≡ Some told = rw many at is in
+          subst (IsTold pipes) (same (TooManyWorkers count) told tells) (refl, ltb-true MAX_WORKERS count many)
+      | inr few ↦ absurd (let tells : None ≡ Some told = rw few at is in cc)
+    ]
+  where
+    same : (a b : GraphFault) → Some a ≡ Some b → a ≡ b
+    same a b is = cc
+
+pub fault_is_told : (pipes : List Pipe) (fault : GraphFault) → graph_fault pipes ≡ Some fault → IsTold pipes fault
+fault_is_told pipes fault is = first_told pipes (graph_faults pipes) fault
+    (told_by pipes SameName has_same_name (λ place first. first), (told_by pipes UnknownInput has_unknown_input (λ place first. first),
+        (told_by pipes Cycle has_cycle (λ place first. first), (told_by pipes ManyOutputs has_many_outputs (λ place first. first),
+            (told_by pipes NoOutput has_no_output (λ place first. first), (told_by pipes WrongFlow has_wrong_flow (λ place first. first),
+                (told_by pipes SamePath has_same_path (λ place first. first), (many_told pipes, tt)))))))) is

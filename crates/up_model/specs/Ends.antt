@@ -3,7 +3,7 @@
 use Rattle.std.specs.Prelude.{◌≡◌, ℕ, ◌≤◌, Bool, true, false, ◌&&◌, not, nat_le, ◌==◌, [], List, length, Option, Some, None}
 use Rattle.std.specs.List.{list_any}
 use Rattle.std.specs.Str.{bytes_eq, is_utf8}
-use Rattle.up_model.specs.KindMeaning.{KindMeaning, no_options, whole_share, no_stand_in, writes_nothing}
+use Rattle.up_model.specs.KindMeaning.{KindMeaning, no_options, no_stand_in, writes_nothing}
 use Rattle.up_model.specs.Packet.{Flow, joined}
 use Rattle.up_model.specs.Tallies.{of_taken}
 use Rattle.up_model.specs.declared.fan_out.FanOut.{FanOut}
@@ -46,7 +46,6 @@ end_meaning IsWithin fan_out written = record {
   settled_tally = of_taken;
   setting = no_options;
   fan_out = fan_out;
-  share = whole_share;
   stand_in = no_stand_in;
   written = written;
 }

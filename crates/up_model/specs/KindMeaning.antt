@@ -27,10 +27,8 @@ pub record KindMeaning : Type 1 where
   pub tally : Flow → Tally
   pub settled_tally : Flow → Tally
   pub setting : Opt → Option Setting
-  -- how many consumers its output can feed
+  -- whom its output feeds, and so what of it each consumer takes
   pub fan_out : FanOut
-  -- what of its output a consumer with this `select` takes
-  pub share : Option ℕ → Flow → Flow
   -- the kind that its module has in place of its own, by the numbers that its consumers select
   pub stand_in : List ℕ → Option Kind
   -- the bytes that it writes of what it takes
@@ -38,10 +36,6 @@ pub record KindMeaning : Type 1 where
 
 abbrev pub no_options : Opt → Option Setting
 no_options option = None
-
--- each consumer takes the whole output
-abbrev pub whole_share : Option ℕ → Flow → Flow
-whole_share select flow = flow
 
 -- its module has its own kind
 abbrev pub no_stand_in : List ℕ → Option Kind

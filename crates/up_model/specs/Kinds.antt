@@ -5,6 +5,7 @@ use Rattle.up_model.specs.Ends.{source_meaning, sink_meaning}
 use Rattle.up_model.specs.KindMeaning.{KindMeaning, Setting, no_options}
 use Rattle.up_model.specs.Packet.{Flow}
 use Rattle.up_model.specs.Packetwise.{packetwise, passes_on, drops}
+use Rattle.up_model.specs.Shares.{share_by}
 use Rattle.up_model.specs.Skip.{skip_meaning}
 use Rattle.up_model.specs.Work.{Work}
 use Rattle.up_model.specs.declared.fan_out.FanOut.{FanOut}
@@ -55,13 +56,13 @@ set_by kind value (Some setting) = setting.set value
 abbrev pub with_option : Kind → Opt → ℤ → Kind
 with_option kind option value = set_by kind value (setting_of kind option)
 
--- how many consumers its output can feed
+-- whom its output feeds
 abbrev pub fan_out_of : Kind → FanOut
 fan_out_of kind = (meaning_of kind).fan_out
 
 -- what of its output a consumer with this `select` takes
 abbrev pub share_of : Kind → Option ℕ → Flow → Flow
-share_of kind select flow = (meaning_of kind).share select flow
+share_of kind select flow = share_by (fan_out_of kind) select flow
 
 -- the bytes that a pipe of the kind writes of what it takes: none but a sink's
 abbrev pub written_of : Kind → Flow → List ℕ

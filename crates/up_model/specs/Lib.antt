@@ -13,6 +13,8 @@ pub mod Packet
 pub mod Packetwise
 pub mod PipeTests
 pub mod Plans
+pub mod Rules
+pub mod Shares
 pub mod Skip
 pub mod Tallies
 pub mod Value

@@ -40,14 +40,15 @@ abbrev pub settled_source_flow : Kind → List ℕ → Flow
 settled_source_flow (Source path form limit) bytes = settled_packets_of form bytes
 settled_source_flow kind bytes = []
 
--- what a pipe carried that ended so and was given these bytes; the last three are no ends of an open source
+-- what a pipe carried that ended so and was given these bytes: at its end all packets, within its limit or before its end those that
+-- are settled
 abbrev pub carried_as : Outcome → Kind → List ℕ → Flow
 carried_as Whole kind bytes = source_flow kind bytes
 carried_as ReadFault kind bytes = settled_source_flow kind bytes
 carried_as (TooLong limit) kind bytes = settled_source_flow kind (take limit bytes)
-carried_as WriteFault kind bytes = []
-carried_as Broken kind bytes = []
-carried_as NoMemory kind bytes = []
+carried_as WriteFault kind bytes = settled_source_flow kind bytes
+carried_as Broken kind bytes = settled_source_flow kind bytes
+carried_as NoMemory kind bytes = settled_source_flow kind bytes
 
 -- where no read fails
 abbrev pub carried_flow : Kind → List ℕ → Flow
@@ -66,14 +67,15 @@ source_flows pipes bytes = carried_flows pipes (λ place. Whole) bytes
 abbrev pub bytes_at : List (List ℕ) → ℕ → List ℕ
 bytes_at given place = unwrap_or (slice_get given place) []
 
--- the outcome of a pipe without a cause of its own, by that of its source
+-- the outcome of a pipe without a cause of its own, by that of its source: where that isn't whole, its flow ended broken. A run that
+-- met want of memory tells it instead
 abbrev pub outcome_behind : Outcome → Outcome
 outcome_behind Whole = Whole
 outcome_behind ReadFault = Broken
 outcome_behind WriteFault = Broken
 outcome_behind (TooLong limit) = Broken
 outcome_behind Broken = Broken
-outcome_behind NoMemory = NoMemory
+outcome_behind NoMemory = Broken
 
 -- how a pipe of the kind ended by itself, once all paths are opened: by whether a call on its own path failed, and by its bytes where
 -- it is a source; any other pipe without such a failure ends as its source does

@@ -1,6 +1,6 @@
 -- Kinds that look at each packet by itself, hold nothing back and remember nothing.
 use Rattle.std.specs.Prelude.{[], ◌∷◌, length, Option, Some, None, filter_map}
-use Rattle.up_model.specs.KindMeaning.{KindMeaning, Setting, whole_share, no_stand_in, writes_nothing}
+use Rattle.up_model.specs.KindMeaning.{KindMeaning, Setting, no_stand_in, writes_nothing}
 use Rattle.up_model.specs.Packet.{PlainPacket, Flow, IsLegal}
 use Rattle.up_model.specs.Tallies.{nothing, plus, of_passed, of_dropped}
 use Rattle.up_model.specs.Work.{Work}
@@ -45,7 +45,6 @@ packetwise IsWithin step setting fan_out = record {
   settled_tally = summed step;
   setting = setting;
   fan_out = fan_out;
-  share = whole_share;
   stand_in = no_stand_in;
   written = writes_nothing;
 }

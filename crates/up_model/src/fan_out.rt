@@ -1,12 +1,12 @@
-/// How many consumers the output of a kind can feed.
+/// Whom the output of a kind feeds.
 #[derive(Clone, Copy, Debug, PartialEq, Eq)]
 pub enum FanOut {
     /// It has no output.
     None,
-    /// One takes it.
+    /// One consumer.
     One,
-    /// Each takes the whole of it.
+    /// Each of its consumers, all of it.
     All,
-    /// Each takes the packets of the packet identifier that it selects.
+    /// Each of its consumers, the packets of the packet identifier that it selects.
     Selected,
 }

@@ -1,20 +1,25 @@
 // Laws of whole graphs. A law is the contract of a function that does nothing.
-ghost use Rattle.std.specs.Prelude.{◌≡◌, ◌<◌, ◌++◌, [], ℕ, true, Option, List, All, length, slice_get, Some, option_map};
+ghost use Rattle.std.specs.Prelude.{◌≡◌, ◌<◌, ◌≤◌, ◌++◌, [], ℕ, false, List, All, length, slice_get, Some};
 ghost use Rattle.std.specs.Option.{IsSome};
 ghost use Rattle.up_base.specs.Lists.{IsPrefix};
 ghost use Rattle.up_model.specs.Ends.{is_source, path_of};
-ghost use Rattle.up_model.specs.Inputs.{PipeTest, reached_within, reached, source_of};
-ghost use Rattle.up_model.specs.Kinds.{IsWithinBounds};
+ghost use Rattle.up_model.specs.Inputs.{PipeTest, consumer_count, reached_within, reached, source_of};
+ghost use Rattle.up_model.specs.Kinds.{IsWithinBounds, fan_out_of};
 ghost use Rattle.up_model.specs.Meaning.{Doing, Feeding, so_far, wholly, is_fed_by, to_sources, IsFedMore, MeetsAll, taken_at, flow_by, pipe_work, flow_at, input_of, sink_bytes, settled_flow, settled_input, settled_bytes};
 ghost use Rattle.up_model.specs.Outcomes.{carried_as, carried_flows, source_flow, source_flows};
 ghost use Rattle.up_model.specs.Packet.{Flow, IsLegal};
-ghost use Rattle.up_model.specs.WellFormed.{IsWellFormed};
+ghost use Rattle.up_model.specs.Rules.{ComesToSource, FeedsRightly, IsTold, TakesRightly};
+ghost use Rattle.up_model.specs.WellFormed.{IsWellFormed, graph_fault, worker_places};
+ghost use Rattle.up_model.specs.declared.graph_fault.GraphFault.{GraphFault as TheFault};
 ghost use Rattle.up_model.specs.declared.kind.Kind.{Kind as TheKind};
+ghost use Rattle.up_model.specs.declared.limits.TheConstants.{MAX_WORKERS};
 ghost use Rattle.up_model.specs.declared.outcome.Outcome.{Outcome as TheOutcome};
 ghost use Rattle.up_model.specs.declared.outcome.Outcome.TheVariants as outcomes;
 ghost use Rattle.up_model.specs.declared.pipe.Pipe.{Pipe as ThePipe};
 
-/// In a well-formed graph names differ, each input is a pipe of the graph, and along inputs each pipe comes to a source.
+/// What a well-formed graph keeps, rule by rule: names differ, each input is a pipe of the graph, along inputs each pipe comes to a
+/// source, as many pipes take an output as it feeds and select what is split alone, a sink's path is no other pipe's, and there are
+/// at most 16 workers.
 pub fn rules_are_kept()
     ensures names { (pipes : List ThePipe) (a b : ℕ) (one other : ThePipe) → IsWellFormed pipes
         → slice_get pipes a ≡ Some one → slice_get pipes b ≡ Some other
@@ -22,9 +27,24 @@ pub fn rules_are_kept()
     ensures inputs { (pipes : List ThePipe) (place input : ℕ) (pipe : ThePipe) → IsWellFormed pipes
         → slice_get pipes place ≡ Some pipe → pipe.input ≡ Some input → input < length pipes }
     ensures sources { (pipes : List ThePipe) (place : ℕ) → IsWellFormed pipes
-        → place < length pipes → (source : ℕ) × (pipe : ThePipe)
-        × (source_of pipes place ≡ Some source) × (slice_get pipes source ≡ Some pipe)
-        × (is_source pipe.kind ≡ true) }
+        → place < length pipes → ComesToSource pipes place }
+    ensures outputs { (pipes : List ThePipe) (place : ℕ) (pipe : ThePipe) → IsWellFormed pipes
+        → slice_get pipes place ≡ Some pipe
+        → FeedsRightly (fan_out_of pipe.kind) (consumer_count pipes place) }
+    ensures flows { (pipes : List ThePipe) (place at : ℕ) (pipe input : ThePipe)
+        → IsWellFormed pipes → slice_get pipes place ≡ Some pipe → pipe.input ≡ Some at
+        → slice_get pipes at ≡ Some input → TakesRightly (fan_out_of input.kind) pipe.select }
+    ensures paths { (pipes : List ThePipe) (a b : ℕ) (one other : ThePipe) (path : List ℕ)
+        → IsWellFormed pipes → slice_get pipes a ≡ Some one → slice_get pipes b ≡ Some other
+        → path_of one.kind ≡ Some path → path_of other.kind ≡ Some path
+        → is_source one.kind ≡ false → a ≡ b }
+    ensures workers { (pipes : List ThePipe) → IsWellFormed pipes
+        → length (worker_places pipes) ≤ MAX_WORKERS }
+{}
+
+/// A fault that is told is the first of its test: a pipe stands at its place and has it, and no pipe before it.
+pub fn the_first_fault_is_told()
+    ensures { (pipes : List ThePipe) (fault : TheFault) → graph_fault pipes ≡ Some fault → IsTold pipes fault }
 {}
 
 /// What is reached along inputs in any number of steps is reached in as many as there are pipes.

@@ -40,9 +40,11 @@ impl Outcome {
     {
         match self {
             Outcome::Whole => Outcome::Whole,
-            Outcome::ReadFault | Outcome::WriteFault | Outcome::TooLong { .. } | Outcome::Broken =>
-                Outcome::Broken,
-            Outcome::NoMemory => Outcome::NoMemory,
+            Outcome::ReadFault
+            | Outcome::WriteFault
+            | Outcome::TooLong { .. }
+            | Outcome::Broken
+            | Outcome::NoMemory => Outcome::Broken,
         }
     }
 }

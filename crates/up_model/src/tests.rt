@@ -124,7 +124,7 @@ fn a_source_breaks_the_pipes_behind_it(rt: HostRuntime) {
         (Outcome::ReadFault, Outcome::Broken),
         (Outcome::TooLong { limit: 5 }, Outcome::Broken),
         (Outcome::Broken, Outcome::Broken),
-        (Outcome::NoMemory, Outcome::NoMemory),
+        (Outcome::NoMemory, Outcome::Broken),
     ] {
         assert_eq!(rt; source.behind(), behind);
     }
