@@ -1,5 +1,5 @@
 -- Worked examples of the first fault of a graph, computed, and of the bounds of a pipe.
-use Rattle.std.proofs.Common.{◌≡◌, ℕ, ◌+◌, ◌-◌, ◌≤◌, [], ◌∷◌, ◌++◌, List, Option, Some, None, map, true, false, refl, arith}
+use Rattle.std.proofs.Common.{◌≡◌, ℕ, ◌+◌, ◌-◌, [], ◌∷◌, ◌++◌, List, Option, Some, None, map, true, false, refl, arith}
 use Rattle.std.specs.Prelude.{codes}
 use Rattle.std.specs.List.{range_with_len}
 use Rattle.up_model.proofs.ExampleChain.{pipe, raw_source, three_pipes}

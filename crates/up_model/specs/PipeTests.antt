@@ -1,4 +1,4 @@
--- What the tests of a pipe have as names in the code.
+-- The tests of a pipe, by the names that the code has for them.
 use Rattle.std.specs.Prelude.{Bool}
 use Rattle.std.specs.Str.{bytes_eq}
 use Rattle.up_model.specs.Ends.{same_path}
@@ -10,7 +10,7 @@ use Rattle.up_model.specs.declared.faults.PipeTest.TheVariants.{SameName, Unknow
 use Rattle.up_model.specs.declared.faults.PipeTest.{PipeTest as TestName}
 use Rattle.up_model.specs.declared.pipe.Pipe.{Pipe}
 
--- the test that each of them is
+-- the test of each name
 abbrev pub test_of : TestName → PipeTest
 test_of SameName = has_same_name
 test_of UnknownInput = has_unknown_input
@@ -21,7 +21,7 @@ test_of WrongFlow = has_wrong_flow
 test_of SamePath = has_same_path
 test_of NewWorker = is_first_of_worker
 
--- the two pipes have it in common
+-- the two pipes have this in common
 abbrev pub are_alike : Common → Pipe → Pipe → Bool
 are_alike Name a b = bytes_eq a.name b.name
 are_alike Path a b = same_path a.kind b.kind

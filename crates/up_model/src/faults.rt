@@ -46,7 +46,7 @@ enum Common {
 }
 
 impl Common {
-    fn is_of(self, a: &Pipe, b: &Pipe) -> bool
+    fn is_shared(self, a: &Pipe, b: &Pipe) -> bool
         ensures { result ≡ are_alike self a.now b.now }
     {
         match self {
@@ -57,12 +57,12 @@ impl Common {
     }
 
     /// Whether the pipe has it in common with one before the place.
-    fn is_before(self, pipes: &PipeList, place: usize, pipe: &Pipe) -> bool
+    fn is_shared_before(self, pipes: &PipeList, place: usize, pipe: &Pipe) -> bool
         ensures { result ≡ list_any (λ earlier. are_alike self earlier pipe.now)
             (take place pipes.now) }
     {
         (0..place).any(|number| {
-            pipe_at(pipes, number).is_some_and(|earlier| self.is_of(earlier, pipe))
+            pipe_at(pipes, number).is_some_and(|earlier| self.is_shared(earlier, pipe))
         })
     }
 }
@@ -70,7 +70,7 @@ impl Common {
 fn has_same_name(pipes: &PipeList, place: usize, pipe: &Pipe) -> bool
     ensures { result ≡ has_same_name pipes.now place pipe.now }
 {
-    Common::Name.is_before(pipes, place, pipe)
+    Common::Name.is_shared_before(pipes, place, pipe)
 }
 
 fn has_unknown_input(pipes: &PipeList, place: usize, pipe: &Pipe) -> bool
@@ -156,13 +156,13 @@ fn same_path(a: &Kind, b: &Kind) -> bool
 fn has_same_path(pipes: &PipeList, place: usize, pipe: &Pipe) -> bool
     ensures { result ≡ has_same_path pipes.now place pipe.now }
 {
-    Common::Path.is_before(pipes, place, pipe)
+    Common::Path.is_shared_before(pipes, place, pipe)
 }
 
 fn is_first_of_worker(pipes: &PipeList, place: usize, pipe: &Pipe) -> bool
     ensures { result ≡ is_first_of_worker pipes.now place pipe.now }
 {
-    !Common::Worker.is_before(pipes, place, pipe)
+    !Common::Worker.is_shared_before(pipes, place, pipe)
 }
 
 impl PipeTest {
