@@ -1,4 +1,4 @@
-ghost use Rattle.std.specs.Prelude.{◌≤◌, length, IfOk, OnOk};
+ghost use Rattle.std.specs.Prelude.{◌≤◌, length, All, IfOk, OnOk};
 ghost use Rattle.up_model.specs.Packet.{IsLegal};
 
 use crate::attr_tests::{assert_number, assert_seen};
@@ -33,6 +33,16 @@ fn set(rt: &impl Abort, packet: &mut PlainPacket, name: &[u8], number: u64) -> R
     Ok(())
 }
 
+/// Adds a legal packet to a flow of legal ones.
+fn put(flow: &mut PacketList, packet: PlainPacket) -> Result<(), Fail>
+    requires flow { All IsLegal flow.old }
+    requires packet { IsLegal packet }
+    ensures { OnOk result (All IsLegal flow.new) }
+{
+    flow.push(packet)?;
+    Ok(())
+}
+
 #[test]
 fn delattr_takes_one_attribute_off_each_packet(rt: HostRuntime) -> Result<(), Fail> {
     let alloc = rt.alloc();
@@ -42,21 +52,21 @@ fn delattr_takes_one_attribute_off_each_packet(rt: HostRuntime) -> Result<(), Fa
     set(&rt, &mut packet, b"pid", 7)?;
     set(&rt, &mut packet, b"rate", 25)?;
     let mut flow = PacketList::new(alloc);
-    flow.push(packet)?;
-    flow.push(bare(alloc, b"c")?)?;
+    put(&mut flow, packet)?;
+    put(&mut flow, bare(alloc, b"c")?)?;
     let graph = three(alloc, 2, Kind::DelAttr { attr: pid })?;
     assert!(rt; graph.is_well_formed());
     assert!(rt; graph.pipes.len() == 3);
     let between = &graph.pipes.at(1).kind;
     assert!(rt; !between.is_source() && !between.is_sink());
-    let put = plain_out(alloc, &graph, 1, &flow, true)?;
-    assert_eq!(rt; put.len(), 2);
-    let first = put.at(0);
+    let left = plain_out(alloc, &graph, 1, &flow, true)?;
+    assert_eq!(rt; left.len(), 2);
+    let first = left.at(0);
     assert_eq!(rt; first.bytes.as_slice(), b"ab".as_slice());
     assert_eq!(rt; first.attrs.len(), 1);
     assert_number(&rt, &first.attrs, &rate, 25);
-    assert_eq!(rt; put.at(1).bytes.as_slice(), b"c".as_slice());
-    assert_eq!(rt; put.at(1).attrs.len(), 0);
+    assert_eq!(rt; left.at(1).bytes.as_slice(), b"c".as_slice());
+    assert_eq!(rt; left.at(1).attrs.len(), 0);
     Ok(())
 }
 
