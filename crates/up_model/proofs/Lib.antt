@@ -1,3 +1,4 @@
+pub mod AlongInputs
 pub mod AttrLists
 pub mod Blocks
 pub mod Carried
@@ -21,6 +22,7 @@ pub mod Lawful
 pub mod LegalFlows
 pub mod Legality
 pub mod MeaningExamples
+pub mod Members
 pub mod NullExamples
 pub mod OptionExamples
 pub mod OutcomeExamples

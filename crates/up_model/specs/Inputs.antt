@@ -39,6 +39,10 @@ consumer_count pipes place = count_by (takes_from place) pipes
 abbrev pub input_pipe : List Pipe → Pipe → Option Pipe
 input_pipe pipes pipe = option_and_then (slice_get pipes) pipe.input
 
+-- the place that the pipe at a place takes from
+abbrev pub input_at : List Pipe → ℕ → Option ℕ
+input_at pipes place = option_and_then (λ pipe. pipe.input) (slice_get pipes place)
+
 -- the first place that passes, from this one on along inputs, in fewer steps than these
 abbrev pub reached_within : ℕ → PipeTest → List Pipe → ℕ → Option ℕ
 reached_within zero test pipes place = None
@@ -46,7 +50,8 @@ reached_within (suc steps) test pipes place = option_and_then (λ pipe.
     if test pipes place pipe then Some place
     else option_and_then (reached_within steps test pipes) pipe.input) (slice_get pipes place)
 
--- the first place that passes, from this one on along inputs; more steps than there are pipes reach no other
+-- the first place that passes, from this one on along inputs
+-- more steps than there are pipes reach no other
 abbrev pub reached : PipeTest → List Pipe → ℕ → Option ℕ
 reached test pipes place = reached_within (length pipes) test pipes place
 

@@ -1,4 +1,5 @@
--- How a graph is split over workers: strands, each of pipes that one worker runs in one go, and the lanes between them.
+-- How a graph is split over workers: strands, each of pipes that one worker runs in one go, and the
+-- lanes between them.
 use Rattle.std.specs.Prelude.{ℕ, ◌==◌, Bool, false, ◌||◌, not, List, Option, slice_get}
 use Rattle.std.specs.List.{filter}
 use Rattle.std.specs.Option.{option_map_or}
@@ -8,14 +9,15 @@ use Rattle.up_model.specs.Inputs.{PipeTest, passes_at, places, input_pipe, reach
 use Rattle.up_model.specs.declared.pipe.Pipe.{Pipe}
 
 -- the pipe has another worker than its input
-abbrev pub changes_worker : PipeTest
-changes_worker pipes place pipe =
+abbrev pub changes_worker : List Pipe → Pipe → Bool
+changes_worker pipes pipe =
     option_map_or (λ input. not (bytes_eq input.worker pipe.worker)) (input_pipe pipes pipe) false
 
 -- a source, or a pipe that has another worker than its input
 abbrev pub is_head : PipeTest
-is_head pipes place pipe = is_source pipe.kind || changes_worker pipes place pipe
+is_head pipes place pipe = is_source pipe.kind || changes_worker pipes pipe
 
+-- all heads, in file order
 abbrev pub heads : List Pipe → List ℕ
 heads pipes = filter (passes_at is_head pipes) (places pipes)
 
@@ -28,10 +30,11 @@ abbrev pub strand_of : List Pipe → ℕ → List ℕ
 strand_of pipes head =
     filter (λ place. option_map_or (λ own. own == head) (head_of pipes place) false) (places pipes)
 
--- the heads that have a lane: those that are no source
+-- it is no source
 abbrev pub is_fed : PipeTest
 is_fed pipes place pipe = not (is_source pipe.kind)
 
+-- the heads that have a lane: those that are no source
 abbrev pub lanes : List Pipe → List ℕ
 lanes pipes = filter (passes_at is_fed pipes) (heads pipes)
 

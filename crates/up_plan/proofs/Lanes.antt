@@ -14,7 +14,7 @@ use Rattle.up_model.specs.Ends.{is_source}
 use Rattle.up_model.specs.Inputs.{passes_at, places}
 use Rattle.up_model.specs.Plans.{is_head, heads, is_fed, lanes, changes_worker}
 use Rattle.up_model.specs.declared.pipe.Pipe.{Pipe}
-use Rattle.up_plan.proofs.Members.{kept_passes, kept_was_there}
+use Rattle.up_model.proofs.Members.{kept_passes, kept_was_there}
 use Rattle.up_plan.specs.Laws.{ComesFromElsewhere}
 use Rattle.up_plan.specs.Plan.{worker_at}
 
@@ -50,7 +50,7 @@ module _ (pipes : List Pipe) where
 
   sources_are_other_heads : (place : ℕ) → is_source_at place ≡ (passes_at is_head pipes place && not (passes_at is_fed pipes place))
   sources_are_other_heads place = elim (slice_get_cases pipes place).1 [
-    | inl there ↦ rw there.2 (source_only (is_source there.0.kind) (changes_worker pipes place there.0))
+    | inl there ↦ rw there.2 (source_only (is_source there.0.kind) (changes_worker pipes there.0))
     | inr past ↦ rw past.1 refl
   ]
 
@@ -64,7 +64,7 @@ module _ (pipes : List Pipe) where
       let counted = count_of_all (λ pipe. is_source pipe.kind) pipes ∙ length-filter (λ pipe. is_source pipe.kind) pipes in
       omega (arith, all, others, counted)
 
-  other_worker : (input : Option ℕ) (pipe : Pipe) → pipe.input ≡ input → changes_worker pipes 0 pipe ≡ true
+  other_worker : (input : Option ℕ) (pipe : Pipe) → pipe.input ≡ input → changes_worker pipes pipe ≡ true
       → (from : ℕ) × (input ≡ Some from) × (worker_at pipes from ≡ pipe.worker → ⊥)
   other_worker None pipe is changes = let fails = rw is at changes in cc
   other_worker (Some from) pipe is changes = elim (slice_get_cases pipes from).1 [
@@ -81,7 +81,7 @@ module _ (pipes : List Pipe) where
       elim (slice_get_cases pipes head).1 [
         | inl own ↦
             let no_source : not (is_source own.0.kind) ≡ true = rw own.2 at fed in
-            let begins : (is_source own.0.kind || changes_worker pipes head own.0) ≡ true = rw own.2 at first in
+            let begins : (is_source own.0.kind || changes_worker pipes own.0) ≡ true = rw own.2 at first in
             let from = other_worker own.0.input own.0 refl (by_change _ _ no_source begins) in
             record {
               input = from.0;

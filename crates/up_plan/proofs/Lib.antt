@@ -1,8 +1,5 @@
 pub mod Lanes
-pub mod Members
 pub mod OneStrand
 pub mod OneWorker
 pub mod Places
 pub mod PlanExamples
-pub mod Ways
-pub mod WellFormedSources

@@ -10,7 +10,7 @@ use Rattle.up_model.specs.Inputs.{passes_at, places}
 use Rattle.up_model.specs.Plans.{is_head, heads, runs_on}
 use Rattle.up_model.specs.WellFormed.{is_first_of_worker}
 use Rattle.up_model.specs.declared.pipe.Pipe.{Pipe}
-use Rattle.up_plan.proofs.Members.{filter_has, kept_passes, passes_within, passing_places_have}
+use Rattle.up_model.proofs.Members.{filter_has, kept_passes, passes_within, passing_places_have}
 use Rattle.up_plan.proofs.Places.{any_before-true}
 use Rattle.up_plan.specs.Laws.{IsOnOneWorker}
 use Rattle.up_plan.specs.Plan.{worker_at}

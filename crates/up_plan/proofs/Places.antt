@@ -12,7 +12,7 @@ use Rattle.up_model.proofs.Places.{reached-nowhere}
 use Rattle.up_model.specs.Inputs.{passes_at, places}
 use Rattle.up_model.specs.Plans as plans
 use Rattle.up_model.specs.declared.pipe.Pipe.{Pipe}
-use Rattle.up_plan.specs.Plan.{has_head, head_of_each}
+use Rattle.up_plan.specs.HeadTable.{has_head, head_of_each}
 
 -- one number more at the end
 range_with_len-suc : (a n j : ℕ) → a + n ≡ j → range_with_len a (suc n) ≡ range_with_len a n ++ j ∷ []

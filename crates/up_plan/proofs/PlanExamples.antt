@@ -80,9 +80,9 @@ no_head = (refl, refl, refl)
 
 -- a worker's name is another from its last byte on
 pub changes :
-    (changes_worker (source (codes "a") ∷ []) 1 (sink (codes "ab") 0) ≡ true)
-    × (changes_worker (source (codes "ab") ∷ []) 1 (sink (codes "ab") 0) ≡ false)
-    × (changes_worker [] 0 (source (codes "a")) ≡ false) × (is_head [] 0 (source (codes "a")) ≡ true)
+    (changes_worker (source (codes "a") ∷ []) (sink (codes "ab") 0) ≡ true)
+    × (changes_worker (source (codes "ab") ∷ []) (sink (codes "ab") 0) ≡ false)
+    × (changes_worker [] (source (codes "a")) ≡ false) × (is_head [] 0 (source (codes "a")) ≡ true)
 changes = (refl, refl, refl, refl)
 
 pub fed : (passes_at is_fed branches 0 ≡ false) × (passes_at is_fed branches 1 ≡ true) × (passes_at is_fed branches 4 ≡ false)
@@ -95,9 +95,9 @@ running = (refl, refl)
 pub plan_of_backwards : plan_of backwards ≡ record {
   strands = record { head = 0; pipes = 0 ∷ [] } ∷ record { head = 2; pipes = 1 ∷ 2 ∷ [] } ∷ [];
   workers = record { name = codes "b"; strands = 0 ∷ [] } ∷ record { name = codes "a"; strands = 2 ∷ [] } ∷ [];
-  lanes = 1;
+  lane_count = 1;
 }
 plan_of_backwards = refl
 
-pub no_pipes : plan_of [] ≡ record { strands = []; workers = []; lanes = 0 }
+pub no_pipes : plan_of [] ≡ record { strands = []; workers = []; lane_count = 0 }
 no_pipes = refl

@@ -1,2 +1,3 @@
+pub mod HeadTable
 pub mod Laws
 pub mod Plan

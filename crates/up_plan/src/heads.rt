@@ -1,10 +1,9 @@
 // Which pipes are heads, and whose head each is.
-ghost use Rattle.std.specs.Prelude.{◌≡◌, ◌≤◌, ℕ, length, slice_get, IfOk};
-ghost use Rattle.std.specs.Option.{option_and_then};
-ghost use Rattle.up_model.specs.Inputs.{passes_at};
+ghost use Rattle.std.specs.Prelude.{◌≡◌, ◌≤◌, length, IfOk};
+ghost use Rattle.up_model.specs.Inputs.{input_at, passes_at};
 ghost use Rattle.up_model.specs.Plans as plans;
 ghost use Rattle.up_model.specs.declared.limits.TheConstants.{MAX_PIPES};
-ghost use Rattle.up_plan.specs.Plan.{head_of_each};
+ghost use Rattle.up_plan.specs.HeadTable.{head_of_each};
 
 use crate::lists::pipe_at;
 use std::alloc::Global;
@@ -13,14 +12,14 @@ use up_model::{Pipe, PipeList};
 
 /// The place that the pipe at a place takes from.
 fn input_at(pipes: &PipeList, place: u16) -> Option<u16>
-    ensures { result ≡ option_and_then (λ pipe. pipe.input) (slice_get pipes.now place) }
+    ensures { result ≡ input_at pipes.now place }
 {
     pipe_at(pipes, place)?.input
 }
 
 /// Whether a pipe has another worker than its input.
 fn changes_worker(pipes: &PipeList, pipe: &Pipe) -> bool
-    ensures { (place : ℕ) → result ≡ plans.changes_worker pipes.now place pipe.now }
+    ensures { result ≡ plans.changes_worker pipes.now pipe.now }
 {
     let Some(place) = pipe.input else {
         return false;

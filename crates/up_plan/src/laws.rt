@@ -8,7 +8,7 @@ ghost use Rattle.up_model.specs.declared.pipe.Pipe.{Pipe as ThePipe};
 ghost use Rattle.up_plan.specs.Laws.{ComesFromElsewhere, IsInOneStrand, IsOnOneWorker, IsFedWithin};
 ghost use Rattle.up_plan.specs.Plan.{worker_at};
 
-/// Each pipe of a well-formed graph stands in exactly one strand.
+/// Each pipe of a well-formed graph stands in exactly one strand, and there once.
 pub fn each_pipe_is_in_one_strand()
     ensures { (pipes : List ThePipe) (place : ℕ) → IsWellFormed pipes → place < length pipes
         → IsInOneStrand pipes place }
@@ -21,13 +21,13 @@ pub fn a_head_is_in_its_own_strand()
 {}
 
 /// In a strand a pipe other than the head takes from a pipe of the strand.
-pub fn a_strand_is_fed_by_its_head()
+pub fn a_strand_is_joined_by_inputs()
     ensures { (pipes : List ThePipe) (head place : ℕ) → Contains (strand_of pipes head) place
         → place ≢ head → IsFedWithin pipes head place }
 {}
 
-/// The pipes of a strand run on one worker.
-pub fn a_strand_runs_on_one_worker()
+/// The pipes of a strand have the worker of its head.
+pub fn a_strand_has_its_heads_worker()
     ensures { (pipes : List ThePipe) (head place : ℕ) → Contains (strand_of pipes head) place
         → worker_at pipes place ≡ worker_at pipes head }
 {}

@@ -35,14 +35,15 @@ pub struct Plan {
     pub strands: StrandList,
     pub workers: WorkerList,
     /// How many strands have a lane: those whose head is no source.
-    pub lanes: usize,
+    pub(crate) lane_count: usize,
 }
 
 impl Plan {
     /// How many lanes lead from strand to strand.
     pub fn lanes(&self) -> usize
-        ensures { (pipes : List ThePipe) → self.now ≡ plan_of pipes → result ≡ length (lanes pipes) }
+        ensures { (pipes : List ThePipe) → self.now ≡ plan_of pipes
+            → result ≡ length (lanes pipes) }
     {
-        self.lanes
+        self.lane_count
     }
 }

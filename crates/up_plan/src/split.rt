@@ -21,6 +21,6 @@ pub fn make_plan(alloc: Global, graph: &Graph) -> Result<Plan, NoMemory>
     Ok(Plan {
         strands: strands_of(alloc, &heads, &each)?,
         workers: workers_of(alloc, pipes, &heads)?,
-        lanes: lane_count(pipes, &heads),
+        lane_count: lane_count(pipes, &heads),
     })
 }

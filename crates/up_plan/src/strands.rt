@@ -3,7 +3,8 @@ ghost use Rattle.std.specs.Prelude.{◌≡◌, ◌≤◌, length, map, List, IfO
 ghost use Rattle.std.specs.List.{filter, range_with_len};
 ghost use Rattle.up_model.specs.declared.limits.TheConstants.{MAX_PIPES};
 ghost use Rattle.up_model.specs.declared.pipe.Pipe.{Pipe as ThePipe};
-ghost use Rattle.up_plan.specs.Plan.{has_head, head_of_each, plan_strand};
+ghost use Rattle.up_plan.specs.HeadTable.{has_head, head_of_each};
+ghost use Rattle.up_plan.specs.Plan.{plan_strand};
 
 use crate::lists::place_list;
 use crate::{PlanStrand, StrandList};
@@ -11,7 +12,7 @@ use std::alloc::Global;
 use up_base::NoMemory;
 
 /// Whether the pipe at a place has this head.
-fn has_head(each: &[Option<u16>], place: u16, head: u16) -> bool
+fn has_head(each: &[Option<u16>], head: u16, place: u16) -> bool
     ensures { result ≡ has_head each.now head place }
 {
     match each.get(usize::from(place)) {
@@ -29,7 +30,7 @@ fn places_of(alloc: Global, each: &[Option<u16>], head: u16) -> Result<Vec<u16>,
     let count = each.len() as u16;
     Ok(
         (0..count)
-            .filter(|place| has_head(each, *place, head))
+            .filter(|place| has_head(each, head, *place))
             .collect(alloc)?,
     )
 }

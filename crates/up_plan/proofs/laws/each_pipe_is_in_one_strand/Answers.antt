@@ -1,5 +1,4 @@
-use Rattle.up_plan.proofs.OneStrand.{in_one_strand}
-use Rattle.up_plan.proofs.WellFormedSources.{has_head_of}
+use Rattle.up_plan.proofs.OneStrand.{has_head_of, in_one_strand}
 use Rattle.up_plan.proofs.laws.each_pipe_is_in_one_strand.Goals as goal
 
 pub returns : goal.returns

@@ -1,5 +1,5 @@
 use Rattle.up_model.specs.Plans.{heads}
-use Rattle.up_plan.proofs.Members.{kept_was_there}
+use Rattle.up_model.proofs.Members.{kept_was_there}
 use Rattle.up_plan.proofs.OneWorker.{strand_on_one_worker}
 use Rattle.up_plan.proofs.laws.each_strand_is_on_one_worker.Goals as goal
 

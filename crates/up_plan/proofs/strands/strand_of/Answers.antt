@@ -1,7 +1,7 @@
 use Rattle.std.proofs.Common.{◌≡◌, ◌∙◌, ap, length, rules}
 use Rattle.std.specs.List.{filter, range_with_len}
 use Rattle.up_model.specs.Plans as plans
-use Rattle.up_plan.specs.Plan.{has_head}
+use Rattle.up_plan.specs.HeadTable.{has_head}
 use Rattle.up_plan.proofs.Places.{strand-of_each}
 use Rattle.up_plan.proofs.strands.strand_of.Goals as goal
 

@@ -1,6 +1,7 @@
 use Rattle.std.proofs.Common.{◌≡◌, List, take, map}
 use Rattle.up_model.specs.declared.pipe.Pipe.{Pipe}
-use Rattle.up_plan.specs.Plan.{head_of_each, plan_strand}
+use Rattle.up_plan.specs.HeadTable.{head_of_each}
+use Rattle.up_plan.specs.Plan.{plan_strand}
 use Rattle.up_plan.proofs.strands.strands_of.Given as goal
 
 abbrev pub invariant-loop-head : goal.invariant-loop-head
