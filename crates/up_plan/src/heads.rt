@@ -1,9 +1,9 @@
 // Which pipes are heads, and whose head each is.
-ghost use Rattle.std.specs.Prelude.{◌≡◌, ◌≤◌, ℕ, length, slice_get, IfOk};
-ghost use Rattle.std.specs.Option.{option_and_then};
+ghost use Rattle.std.specs.Prelude.{◌≡◌, ◌≤◌, ℕ, length, IfOk};
 ghost use Rattle.up_model.specs.Inputs.{passes_at};
 ghost use Rattle.up_model.specs.Plans as plans;
 ghost use Rattle.up_model.specs.declared.limits.TheConstants.{MAX_PIPES};
+ghost use Rattle.up_plan.specs.Laws.{input_at};
 ghost use Rattle.up_plan.specs.Plan.{head_of_each};
 
 use crate::lists::pipe_at;
@@ -13,7 +13,7 @@ use up_model::{Pipe, PipeList};
 
 /// The place that the pipe at a place takes from.
 fn input_at(pipes: &PipeList, place: u16) -> Option<u16>
-    ensures { result ≡ option_and_then (λ pipe. pipe.input) (slice_get pipes.now place) }
+    ensures { result ≡ input_at pipes.now place }
 {
     pipe_at(pipes, place)?.input
 }

@@ -41,7 +41,8 @@ pub struct Plan {
 impl Plan {
     /// How many lanes lead from strand to strand.
     pub fn lanes(&self) -> usize
-        ensures { (pipes : List ThePipe) → self.now ≡ plan_of pipes → result ≡ length (lanes pipes) }
+        ensures { (pipes : List ThePipe) → self.now ≡ plan_of pipes
+            → result ≡ length (lanes pipes) }
     {
         self.lanes
     }
