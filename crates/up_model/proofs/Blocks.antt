@@ -1,12 +1,12 @@
 -- The blocks of some bytes, where more bytes come after them.
-use Rattle.std.proofs.Common.{◌≡◌, ℕ, zero, suc, ◌+◌, ◌-◌, ◌*◌, ◌/◌, ◌<◌, ◌≤◌, List, [], ◌∷◌, ◌++◌, length, take, drop, map, refl, sym, ap, ◌∙◌, arith, length-append, length-drop, inl, inr, subst}
+use Rattle.std.proofs.Common.{◌≡◌, ℕ, zero, suc, ◌+◌, ◌-◌, ◌*◌, ◌/◌, ◌<◌, ◌≤◌, List, ◌∷◌, ◌++◌, length, take, drop, map, refl, ap, ◌∙◌, arith, length-append, length-drop, subst}
 use Rattle.std.specs.List.{range_with_len}
 use Rattle.std.proofs.lemmas.List.{take-append-le, drop-append-le}
 use Rattle.std.proofs.Math.Nat.{div-mul-le_self}
 use Rattle.std.proofs.lemmas.Nat.{le-div}
 use Rattle.up_base.specs.Lists.{IsPrefix}
 use Rattle.up_model.specs.Cutting.{piece, pieces, blocks, full_blocks}
-use Rattle.up_model.specs.Packet.{Flow, plain}
+use Rattle.up_model.specs.Packet.{plain}
 
 -- a piece of the front is one of the whole
 piece_of_front : (size : ℕ) (a b : List ℕ) (place : ℕ) → (place + 1) * size ≤ length a → piece size (a ++ b) place ≡ piece size a place

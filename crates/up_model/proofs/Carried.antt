@@ -8,7 +8,7 @@ use Rattle.up_model.proofs.Packets.{pieces_are_legal}
 use Rattle.up_model.specs.Ends.{IsSourceForm}
 use Rattle.up_model.specs.Kinds.{IsWithinBounds}
 use Rattle.up_model.specs.Outcomes.{carried_as, settled_source_flow, packets_of, source_flow, settled_packets_of}
-use Rattle.up_model.specs.Packet.{Flow, IsLegal}
+use Rattle.up_model.specs.Packet.{IsLegal}
 use Rattle.up_model.specs.declared.form.SourceForm.{SourceForm}
 use Rattle.up_model.specs.declared.form.SourceForm.TheVariants.{Raw}
 use Rattle.up_model.specs.declared.kind.Kind.{Kind}

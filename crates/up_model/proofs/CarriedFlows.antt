@@ -6,7 +6,7 @@ use Rattle.up_base.specs.Lists.{IsPrefix}
 use Rattle.up_model.proofs.Carried.{carried_is_first, carried_are_legal}
 use Rattle.up_model.proofs.WellFormed.{is_pipe}
 use Rattle.up_model.specs.Outcomes.{carried_as, carried_flows, source_flows}
-use Rattle.up_model.specs.Packet.{Flow, IsLegal}
+use Rattle.up_model.specs.Packet.{IsLegal}
 use Rattle.up_model.specs.WellFormed.{IsWellFormed}
 use Rattle.up_model.specs.declared.outcome.Outcome.{Outcome}
 use Rattle.up_model.specs.declared.outcome.Outcome.TheVariants.{Whole}

@@ -1,5 +1,5 @@
 -- A chain passes on what its source puts out.
-use Rattle.std.proofs.Common.{◌≡◌, ℕ, zero, suc, ◌+◌, ◌<◌, List, [], ◌∷◌, length, Option, Some, slice_get, true, refl, ap, ◌∙◌, add-one, arith}
+use Rattle.std.proofs.Common.{◌≡◌, ℕ, zero, suc, ◌+◌, ◌<◌, List, length, Option, Some, slice_get, true, refl, ap, ◌∙◌, add-one, arith}
 use Rattle.std.specs.Prelude.{unwrap_or}
 use Rattle.up_model.proofs.FedSources.{fed_source, unfed}
 use Rattle.up_model.proofs.Packetwise.{passed-on}

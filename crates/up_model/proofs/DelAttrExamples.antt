@@ -1,14 +1,12 @@
 -- Worked examples of `delattr`, computed.
-use Rattle.std.proofs.Common.{◌≡◌, ◌∷◌, [], ◌∙◌, List, ℕ, None, not, true, map, refl, ap, sym}
+use Rattle.std.proofs.Common.{◌≡◌, ◌∷◌, [], List, ℕ, None, not, true, refl, ap, sym}
 use Rattle.std.specs.Prelude.{codes}
 use Rattle.std.specs.Ordering.{eq_by_cmp}
 use Rattle.std.specs.FinMap.Entries.{where_key}
-use Rattle.up_model.proofs.AttrLists.{Attr, HasOrder, by_name, attrs_of, no_attrs, without}
-use Rattle.up_model.specs.Attrs.{Attrs}
+use Rattle.up_model.proofs.AttrLists.{Attr, HasOrder, by_name, attrs_of, without}
 use Rattle.up_model.specs.DelAttr.{delattr_step}
 use Rattle.up_model.specs.Kinds.{setting_of, settled_work, work_of}
 use Rattle.up_model.specs.Packet.{Flow, PlainPacket, plain}
-use Rattle.up_model.specs.Packetwise.{passed}
 use Rattle.up_model.specs.declared.verdict.Verdict.TheVariants.{Passes}
 use Rattle.up_model.specs.declared.kind.Kind.TheVariants.{DelAttr}
 use Rattle.up_model.specs.declared.opt.Opt.{Opt}

@@ -1,11 +1,11 @@
 -- A graph is fed at its sources.
-use Rattle.std.proofs.Common.{◌≡◌, ℕ, zero, suc, Bool, true, false, cond, List, [], All, Option, Some, None, slice_get, length, refl, sym, ap, ◌∙◌, subst}
+use Rattle.std.proofs.Common.{◌≡◌, ℕ, zero, suc, Bool, true, false, cond, List, All, Option, Some, None, slice_get, length, refl, sym, ap, ◌∙◌, subst}
 use Rattle.std.specs.Prelude.{option_and_then}
 use Rattle.std.specs.Option.{is_some, option_map_or}
 use Rattle.up_base.specs.Lists.{IsPrefix}
 use Rattle.up_model.specs.Ends.{is_source}
 use Rattle.up_model.specs.Inputs.{passes_at, reached_within, reached, ends_at_source, source_of}
-use Rattle.up_model.specs.Meaning.{Feeding, is_fed_by, IsFedMore, to_sources}
+use Rattle.up_model.specs.Meaning.{is_fed_by, IsFedMore, to_sources}
 use Rattle.up_model.specs.Packet.{Flow, IsLegal}
 use Rattle.up_model.specs.declared.pipe.Pipe.{Pipe}
 

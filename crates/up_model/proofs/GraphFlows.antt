@@ -1,12 +1,12 @@
 -- What the pipes of a graph put out grows with what its sources give, and with the end of their flows.
 use Rattle.std.specs.Prelude.{unwrap_or}
-use Rattle.std.proofs.Common.{◌≡◌, ◌≤◌, ℕ, zero, suc, List, [], ◌++◌, All, Option, Some, None, slice_get, refl, sym, ap, ◌∙◌, length, subst}
+use Rattle.std.proofs.Common.{◌≡◌, ℕ, zero, suc, List, [], Option, Some, None, slice_get, refl, sym, subst}
 use Rattle.up_base.specs.Lists.{IsPrefix}
 use Rattle.up_model.proofs.EveryKind.{lawful}
 use Rattle.up_model.proofs.Shares.{share_longer}
 use Rattle.up_model.specs.Kinds.{fan_out_of, IsWithinBounds, output_of, settled_output, share_of, module_kind, written_of}
-use Rattle.up_model.specs.Meaning.{Doing, Feeding, IsFedMore, wholly, so_far, selected, done_by, shared, taken_from, taken_by, work_at, flow_within, flow_by}
-use Rattle.up_model.specs.Packet.{Flow, IsLegal}
+use Rattle.up_model.specs.Meaning.{Doing, Feeding, IsFedMore, wholly, so_far, selected, done_by, shared, taken_from, work_at, flow_within}
+use Rattle.up_model.specs.Packet.{Flow}
 use Rattle.up_model.specs.declared.kind.Kind.{Kind}
 use Rattle.up_model.specs.declared.kind.Kind.TheVariants.{Source}
 use Rattle.up_model.specs.declared.pipe.Pipe.{Pipe}

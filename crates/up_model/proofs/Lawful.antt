@@ -1,5 +1,5 @@
 -- What every kind keeps, and how a kind comes to keep it.
-use Rattle.std.proofs.Common.{◌≡◌, ℕ, ◌≤◌, ℤ, List, [], ◌++◌, All, Option, Some, None, true, refl, sym, subst}
+use Rattle.std.proofs.Common.{◌≡◌, ℕ, ◌≤◌, ℤ, List, [], ◌++◌, All, Option, Some, None, true, refl, subst}
 use Rattle.std.specs.Prelude.{MatchOption}
 use Rattle.up_base.specs.Lists.{IsPrefix}
 use Rattle.up_model.proofs.Packetwise.{passed-append, summed-grows, work_counts, KeepsLegal, passed_is_legal}

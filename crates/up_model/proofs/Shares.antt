@@ -1,5 +1,5 @@
 -- What a consumer takes grows with the output, and is legal where that is.
-use Rattle.std.proofs.Common.{◌≡◌, ℕ, List, [], ◌++◌, All, Option, Some, None, refl}
+use Rattle.std.proofs.Common.{ℕ, [], ◌++◌, All, Option, Some, None, refl}
 use Rattle.std.proofs.lemmas.List.Elements.{All-nil, filter-append, All-filter}
 use Rattle.up_base.specs.Lists.{IsPrefix}
 use Rattle.up_model.specs.Packet.{Flow, IsLegal}

@@ -1,5 +1,5 @@
 -- The kind `skip` keeps the laws.
-use Rattle.std.proofs.Common.{◌≡◌, ◌≢◌, ℕ, ◌≤◌, ℤ, pos, negsuc, Bool, true, false, length, drop, if◌then◌else◌, Some, None, refl, arith, length-drop, ap, sym, subst}
+use Rattle.std.proofs.Common.{◌≡◌, ◌≢◌, ℕ, ℤ, pos, negsuc, Bool, true, false, length, drop, if◌then◌else◌, Some, refl, arith, length-drop, ap, sym, subst}
 use Rattle.std.proofs.lemmas.Bool.{leb-true, le-leb, false≢true}
 use Rattle.std.specs.Prelude.{nat_le, int_le, ◌&&◌, unwrap_or}
 use Rattle.std.specs.Cmp.Derive.{both_true}

@@ -1,5 +1,5 @@
 -- Worked examples of what the pipes of a tree put out and count, computed.
-use Rattle.std.proofs.Common.{◌≡◌, true, false, List, ℕ, if◌then◌else◌, [], ◌∷◌, Option, Some, None, map, refl}
+use Rattle.std.proofs.Common.{◌≡◌, true, false, List, ℕ, if◌then◌else◌, [], ◌∷◌, Option, Some, None, refl}
 use Rattle.std.specs.Prelude.{◌==◌, codes}
 use Rattle.up_model.proofs.ExampleChain.{pipe, raw_source}
 use Rattle.up_model.proofs.ExampleTree.{tree, given, archive, tails, other}

@@ -1,9 +1,9 @@
 -- What a well-formed graph keeps, a rule at a time.
 use Rattle.std.proofs.Common.{◌≡◌, ℕ, zero, suc, ◌+◌, ◌<◌, ◌≤◌, ◌⊎◌, Bool, true, false, not, cond, ltb, List, [], ◌∷◌, All, length, take, get_or, Option, Some, None, slice_get, refl, sym, ap, ◌∙◌, subst, arith, inl, inr}
-use Rattle.std.specs.Prelude.{option_map, option_and_then, ◌==◌, ◌&&◌, position, nat_le, nat_lt, filter_map, if◌then◌else◌}
-use Rattle.std.specs.List.{range_with_len, position_or_len, cons_option, list_any}
+use Rattle.std.specs.Prelude.{option_map, option_and_then, ◌==◌, ◌&&◌, nat_le, nat_lt, if◌then◌else◌}
+use Rattle.std.specs.List.{position_or_len, cons_option, list_any}
 use Rattle.std.specs.Str.{bytes_eq}
-use Rattle.std.specs.Option.{IsSome, is_some, option_map_or}
+use Rattle.std.specs.Option.{IsSome, option_map_or}
 use Rattle.std.proofs.lemmas.Bool.{cases_lt, lt-ltb, le-leb, leb-false, eqb-false, ltb-true, cases_Bool}
 use Rattle.std.proofs.lemmas.List.Elements.{All-nil, All-cons, All-head, All-tail, All-get_or}
 use Rattle.std.proofs.lemmas.List.Quantifiers.{position-Some}
@@ -16,9 +16,9 @@ use Rattle.std.proofs.lemmas.Option.{get_or_from_slice_get, slice_get_within}
 use Rattle.up_model.proofs.EveryKind.{lawful}
 use Rattle.up_model.proofs.GraphFlows.{AreBounded}
 use Rattle.up_model.proofs.Steps.{found_passes}
-use Rattle.up_model.specs.Ends.{is_source, is_one_path, path_of, same_path}
+use Rattle.up_model.specs.Ends.{is_source, is_one_path, path_of, clash_on_path}
 use Rattle.up_model.specs.Inputs.{PipeTest, passes_at, places, first_place, consumer_count, input_pipe, ends_at_source, source_of}
-use Rattle.up_model.specs.Kinds.{IsWithinBounds, fan_out_of}
+use Rattle.up_model.specs.Kinds.{fan_out_of}
 use Rattle.up_model.specs.Rules.{ComesToSource, FeedsRightly, TakesRightly, IsFirst, IsTold}
 use Rattle.up_model.specs.declared.fan_out.FanOut.{FanOut}
 use Rattle.up_model.specs.declared.fan_out.FanOut.TheVariants as fans
@@ -78,7 +78,7 @@ pub record HasNoFault (pipes : List Pipe) : Type 0 where
   pub many_outputs : first_place has_many_outputs pipes ≡ None
   pub no_output : first_place has_no_output pipes ≡ None
   pub wrong_flow : first_place has_wrong_flow pipes ≡ None
-  pub same_path : first_place has_same_path pipes ≡ None
+  pub clash_on_path : first_place has_same_path pipes ≡ None
   pub workers : worker_fault (length (worker_places pipes)) ≡ None
 
 pub no_fault : (pipes : List Pipe) → graph_fault pipes ≡ None → HasNoFault pipes
@@ -98,7 +98,7 @@ no_fault pipes none =
       many_outputs = no_place ManyOutputs _ many.0;
       no_output = no_place NoOutput _ no.0;
       wrong_flow = no_place WrongFlow _ wrong.0;
-      same_path = no_place SamePath _ paths.0;
+      clash_on_path = no_place SamePath _ paths.0;
       workers = workers.0;
     }
 
@@ -148,7 +148,7 @@ rightly_taken fans.Selected None right = absurd (cc)
 rightly_taken fans.Selected (Some number) right = refl
 
 -- two pipes of one path clash where one of them is no source
-clash : (a b : Kind) (path : List ℕ) → path_of a ≡ Some path → path_of b ≡ Some path → (is_source a ≡ false) ⊎ (is_source b ≡ false) → same_path a b ≡ true
+clash : (a b : Kind) (path : List ℕ) → path_of a ≡ Some path → path_of b ≡ Some path → (is_source a ≡ false) ⊎ (is_source b ≡ false) → clash_on_path a b ≡ true
 clash a b path of of_other free =
     let one : is_one_path (path_of a) (path_of b) ≡ true = rw (of, of_other) ((bytes_eq-Decides path path).1 refl) in
     rw (not_both (is_source a) (is_source b) free, one) refl
@@ -238,14 +238,14 @@ module _ (pipes : List Pipe) (well : IsWellFormed pipes) where
       (subst (λ (o : Option Pipe). option_map_or (λ (input : Pipe). is_wrong_for (fan_out_of input.kind) pipe.select) o false ≡ false) found fails)
 
   -- an earlier pipe has another path, unless both are sources
-  earlier_path : (a b : ℕ) (one other : Pipe) → slice_get pipes a ≡ Some one → slice_get pipes b ≡ Some other → same_path one.kind other.kind ≡ true → a < b → ⊥
+  earlier_path : (a b : ℕ) (one other : Pipe) → slice_get pipes a ≡ Some one → slice_get pipes b ≡ Some other → clash_on_path one.kind other.kind ≡ true → a < b → ⊥
   earlier_path a b one other is also same before =
-      let fails : list_any (λ earlier. same_path earlier.kind other.kind) (take b pipes) ≡ false =
-      nowhere has_same_path pipes (no_fault pipes well.faultless).same_path b other also in
+      let fails : list_any (λ earlier. clash_on_path earlier.kind other.kind) (take b pipes) ≡ false =
+      nowhere has_same_path pipes (no_fault pipes well.faultless).clash_on_path b other also in
       let there : get_or (take b pipes) a other ≡ one = get_or-take b pipes a other before ∙ get_or_from_slice_get pipes a one other is in
       let short : length (take b pipes) ≡ b = length-take-le b pipes (omega (arith, slice_get_within pipes b other also)) in
-      let found : list_any (λ earlier. same_path earlier.kind other.kind) (take b pipes) ≡ true =
-      list_any_at (λ earlier. same_path earlier.kind other.kind) (take b pipes) a other (omega (arith, before, short)) (rw there same) in
+      let found : list_any (λ earlier. clash_on_path earlier.kind other.kind) (take b pipes) ≡ true =
+      list_any_at (λ earlier. clash_on_path earlier.kind other.kind) (take b pipes) a other (omega (arith, before, short)) (rw there same) in
       cc
 
   pub paths_differ : (a b : ℕ) (one other : Pipe) (path : List ℕ) → slice_get pipes a ≡ Some one → slice_get pipes b ≡ Some other
@@ -310,8 +310,22 @@ many_told pipes told is =
     same a b is = cc
 
 pub fault_is_told : (pipes : List Pipe) (fault : GraphFault) → graph_fault pipes ≡ Some fault → IsTold pipes fault
-fault_is_told pipes fault is = first_told pipes (graph_faults pipes) fault
-    (told_by pipes SameName has_same_name (λ place first. first), (told_by pipes UnknownInput has_unknown_input (λ place first. first),
-        (told_by pipes Cycle has_cycle (λ place first. first), (told_by pipes ManyOutputs has_many_outputs (λ place first. first),
-            (told_by pipes NoOutput has_no_output (λ place first. first), (told_by pipes WrongFlow has_wrong_flow (λ place first. first),
-                (told_by pipes SamePath has_same_path (λ place first. first), (many_told pipes, tt)))))))) is
+fault_is_told pipes fault is = first_told pipes (graph_faults pipes) fault (
+  told_by pipes SameName has_same_name (λ place first. first),
+  (
+    told_by pipes UnknownInput has_unknown_input (λ place first. first),
+    (
+      told_by pipes Cycle has_cycle (λ place first. first),
+      (
+        told_by pipes ManyOutputs has_many_outputs (λ place first. first),
+        (
+          told_by pipes NoOutput has_no_output (λ place first. first),
+          (
+            told_by pipes WrongFlow has_wrong_flow (λ place first. first),
+            (told_by pipes SamePath has_same_path (λ place first. first), (many_told pipes, tt)),
+          ),
+        ),
+      ),
+    ),
+  ),
+) is

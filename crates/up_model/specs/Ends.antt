@@ -80,6 +80,6 @@ is_one_path (Some path) (Some other) = bytes_eq path other
 is_one_path (Some path) None = false
 is_one_path None other = false
 
--- the two have one path, which sources alone may share
-abbrev pub same_path : Kind → Kind → Bool
-same_path a b = not (is_source a && is_source b) && is_one_path (path_of a) (path_of b)
+-- the two have one path, and aren't both sources, which may share one
+abbrev pub clash_on_path : Kind → Kind → Bool
+clash_on_path a b = not (is_source a && is_source b) && is_one_path (path_of a) (path_of b)

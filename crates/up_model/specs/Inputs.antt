@@ -28,12 +28,12 @@ abbrev pub first_place : PipeTest → List Pipe → Option ℕ
 first_place test pipes = position (passes_at test pipes) (places pipes)
 
 -- the pipe takes what is put out at the place
-abbrev pub takes_from : ℕ → Pipe → Bool
-takes_from place pipe = option_map_or (λ input. input == place) pipe.input false
+abbrev pub is_consumer_of : ℕ → Pipe → Bool
+is_consumer_of place pipe = option_map_or (λ input. input == place) pipe.input false
 
 -- how many pipes do
 abbrev pub consumer_count : List Pipe → ℕ → ℕ
-consumer_count pipes place = count_by (takes_from place) pipes
+consumer_count pipes place = count_by (is_consumer_of place) pipes
 
 -- the pipe whose output a pipe takes
 abbrev pub input_pipe : List Pipe → Pipe → Option Pipe

@@ -3,6 +3,7 @@ pub mod Chain
 pub mod Cutting
 pub mod DelAttr
 pub mod Ends
+pub mod FaultTests
 pub mod Inputs
 pub mod KindMeaning
 pub mod Kinds
@@ -11,7 +12,6 @@ pub mod OptionValues
 pub mod Outcomes
 pub mod Packet
 pub mod Packetwise
-pub mod PipeTests
 pub mod Plans
 pub mod Rules
 pub mod Shares

@@ -1,7 +1,7 @@
 -- Kinds that look at each packet by itself, hold nothing back and remember nothing.
 use Rattle.std.specs.Prelude.{[], ◌∷◌, length, Option, Some, None, filter_map}
 use Rattle.up_model.specs.KindMeaning.{KindMeaning, Setting, no_stand_in, writes_nothing}
-use Rattle.up_model.specs.Packet.{PlainPacket, Flow, IsLegal}
+use Rattle.up_model.specs.Packet.{PlainPacket, Flow}
 use Rattle.up_model.specs.Tallies.{nothing, plus, of_passed, of_dropped}
 use Rattle.up_model.specs.Work.{Work}
 use Rattle.up_model.specs.declared.fan_out.FanOut.{FanOut}

@@ -1,5 +1,5 @@
 -- The rules of well-formed graphs, and what a fault tells, in words of their own: laws say that the tests keep them.
-use Rattle.std.specs.Prelude.{◌≡◌, ◌≢◌, ℕ, ◌<◌, ◌≤◌, true, false, List, length, slice_get, Option, Some, None}
+use Rattle.std.specs.Prelude.{◌≡◌, ℕ, ◌<◌, true, false, List, length, slice_get, Option, Some, None}
 use Rattle.std.specs.Option.{IsSome}
 use Rattle.up_model.specs.Ends.{is_source}
 use Rattle.up_model.specs.Inputs.{PipeTest, passes_at, source_of}

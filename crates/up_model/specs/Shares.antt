@@ -1,5 +1,5 @@
 -- What a consumer takes of an output.
-use Rattle.std.specs.Prelude.{ℕ, ◌==◌, Bool, ◌&&◌, List, [], filter, Option, Some, None}
+use Rattle.std.specs.Prelude.{ℕ, ◌==◌, Bool, ◌&&◌, [], filter, Option, Some, None}
 use Rattle.up_base.specs.Transport.{is_ts_packet, packet_identifier}
 use Rattle.up_model.specs.Packet.{PlainPacket, Flow}
 use Rattle.up_model.specs.declared.fan_out.FanOut.{FanOut}

@@ -63,7 +63,7 @@ stopped sums = record {
 abbrev pub unless_caught : Bool → ℕ → ℕ
 unless_caught caught sum = if caught then 0 else sum
 
--- the sums that reach the root, past a probe that catches these kinds; what is taken and put is no event
+-- the sums past a probe that catches these kinds of event; packets taken and put are no events
 abbrev pub uncaught : CatchSet → Tally → Tally
 uncaught caught sums = record sums {
   dropped = unless_caught caught.drop sums.dropped;

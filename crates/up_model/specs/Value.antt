@@ -1,5 +1,5 @@
 -- Values of attributes.
-use Rattle.std.specs.Prelude.{◌≡◌, ℕ, ◌<◌, ◌≤◌, ◌^◌, true, length}
+use Rattle.std.specs.Prelude.{◌≡◌, ◌<◌, ◌≤◌, ◌^◌, true, length}
 use Rattle.std.specs.Str.{is_utf8}
 use Rattle.up_model.specs.declared.limits.TheConstants.{MAX_VALUE}
 use Rattle.up_model.specs.declared.value.Value.{Value}

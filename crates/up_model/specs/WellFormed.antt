@@ -1,10 +1,10 @@
 -- When a graph is well formed, and the first fault of one that isn't.
-use Rattle.std.specs.Prelude.{◌≡◌, ℕ, ◌≤◌, ◌==◌, nat_le, nat_lt, Bool, true, false, ◌&&◌, not, List, [], ◌∷◌, length, take, All, Option, Some, None, option_map, if◌then◌else◌}
+use Rattle.std.specs.Prelude.{◌≡◌, ℕ, ◌≤◌, ◌==◌, nat_le, nat_lt, Bool, true, false, not, List, [], ◌∷◌, length, take, All, Option, Some, None, option_map, if◌then◌else◌}
 use Rattle.std.specs.List.{filter, list_any}
 use Rattle.std.specs.Option.{is_some, option_map_or, option_or}
 use Rattle.std.specs.Str.{bytes_eq}
 use Rattle.up_base.specs.Name.{is_name}
-use Rattle.up_model.specs.Ends.{is_source, same_path}
+use Rattle.up_model.specs.Ends.{is_source, clash_on_path}
 use Rattle.up_model.specs.Inputs.{PipeTest, passes_at, places, first_place, consumer_count, input_pipe, source_of}
 use Rattle.up_model.specs.Kinds.{IsWithinBounds, fan_out_of}
 use Rattle.up_model.specs.declared.fan_out.FanOut.{FanOut}
@@ -28,7 +28,7 @@ has_unknown_input pipes place pipe =
 abbrev pub has_cycle : PipeTest
 has_cycle pipes place pipe = not (is_some (source_of pipes place))
 
--- more consumers than such an output can feed; what takes of a kind without one has a wrong flow
+-- an output that one consumer takes has two or more; to take of a kind without output is a wrong flow
 abbrev pub are_too_many : FanOut → ℕ → Bool
 are_too_many fans.None count = false
 are_too_many fans.One count = nat_le 2 count
@@ -39,7 +39,7 @@ abbrev pub has_many_outputs : PipeTest
 has_many_outputs pipes place pipe =
     are_too_many (fan_out_of pipe.kind) (consumer_count pipes place)
 
--- a kind with an output feeds somebody
+-- an output that nobody takes
 abbrev pub are_too_few : FanOut → ℕ → Bool
 are_too_few fans.None count = false
 are_too_few fans.One count = count == 0
@@ -61,10 +61,10 @@ abbrev pub has_wrong_flow : PipeTest
 has_wrong_flow pipes place pipe = option_map_or
     (λ input. is_wrong_for (fan_out_of input.kind) pipe.select) (input_pipe pipes pipe) false
 
--- an earlier pipe has its path, and the two aren't both sources
+-- its path clashes with that of an earlier pipe
 abbrev pub has_same_path : PipeTest
 has_same_path pipes place pipe =
-    list_any (λ earlier. same_path earlier.kind pipe.kind) (take place pipes)
+    list_any (λ earlier. clash_on_path earlier.kind pipe.kind) (take place pipes)
 
 -- no earlier pipe has its worker
 abbrev pub is_first_of_worker : PipeTest

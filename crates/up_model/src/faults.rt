@@ -1,9 +1,9 @@
 // The tests of a pipe among the pipes of its graph.
 ghost use Rattle.std.specs.Prelude.{◌≡◌, length, take};
 ghost use Rattle.std.specs.List.{list_any};
-ghost use Rattle.up_model.specs.Ends.{is_one_path, path_of, same_path};
+ghost use Rattle.up_model.specs.Ends.{is_one_path, path_of, clash_on_path};
 ghost use Rattle.up_model.specs.Inputs.{first_place, passes_at};
-ghost use Rattle.up_model.specs.PipeTests.{are_alike, test_of};
+ghost use Rattle.up_model.specs.FaultTests.{are_alike, test_of};
 ghost use Rattle.up_model.specs.WellFormed.{
   are_too_few,
   are_too_many,
@@ -24,7 +24,7 @@ use crate::{FanOut, Kind, Pipe, PipeList};
 
 /// What a pipe is tested for.
 #[derive(Clone, Copy, Debug)]
-pub(crate) enum PipeTest {
+pub(crate) enum FaultTest {
     SameName,
     UnknownInput,
     Cycle,
@@ -51,7 +51,7 @@ impl Common {
     {
         match self {
             Common::Name => a.name.bytes() == b.name.bytes(),
-            Common::Path => same_path(&a.kind, &b.kind),
+            Common::Path => clash_on_path(&a.kind, &b.kind),
             Common::Worker => a.worker.bytes() == b.worker.bytes(),
         }
     }
@@ -147,8 +147,8 @@ fn have_one_path(a: &Kind, b: &Kind) -> bool
     }
 }
 
-fn same_path(a: &Kind, b: &Kind) -> bool
-    ensures { result ≡ same_path a.now b.now }
+fn clash_on_path(a: &Kind, b: &Kind) -> bool
+    ensures { result ≡ clash_on_path a.now b.now }
 {
     !(a.is_source() && b.is_source()) && have_one_path(a, b)
 }
@@ -165,19 +165,19 @@ fn is_first_of_worker(pipes: &PipeList, place: usize, pipe: &Pipe) -> bool
     !Common::Worker.is_shared_before(pipes, place, pipe)
 }
 
-impl PipeTest {
+impl FaultTest {
     fn passes(self, pipes: &PipeList, place: usize, pipe: &Pipe) -> bool
         ensures { result ≡ test_of self pipes.now place pipe.now }
     {
         match self {
-            PipeTest::SameName => has_same_name(pipes, place, pipe),
-            PipeTest::UnknownInput => has_unknown_input(pipes, place, pipe),
-            PipeTest::Cycle => has_cycle(pipes, place, pipe),
-            PipeTest::ManyOutputs => has_many_outputs(pipes, place, pipe),
-            PipeTest::NoOutput => has_no_output(pipes, place, pipe),
-            PipeTest::WrongFlow => has_wrong_flow(pipes, place, pipe),
-            PipeTest::SamePath => has_same_path(pipes, place, pipe),
-            PipeTest::NewWorker => is_first_of_worker(pipes, place, pipe),
+            FaultTest::SameName => has_same_name(pipes, place, pipe),
+            FaultTest::UnknownInput => has_unknown_input(pipes, place, pipe),
+            FaultTest::Cycle => has_cycle(pipes, place, pipe),
+            FaultTest::ManyOutputs => has_many_outputs(pipes, place, pipe),
+            FaultTest::NoOutput => has_no_output(pipes, place, pipe),
+            FaultTest::WrongFlow => has_wrong_flow(pipes, place, pipe),
+            FaultTest::SamePath => has_same_path(pipes, place, pipe),
+            FaultTest::NewWorker => is_first_of_worker(pipes, place, pipe),
         }
     }
 
@@ -200,6 +200,6 @@ pub(crate) fn worker_count(pipes: &PipeList) -> usize
     ensures { result ≡ length (worker_places pipes.now) }
 {
     (0..pipes.len())
-        .filter(|place| PipeTest::NewWorker.passes_at(pipes, *place))
+        .filter(|place| FaultTest::NewWorker.passes_at(pipes, *place))
         .count()
 }

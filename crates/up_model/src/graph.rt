@@ -2,12 +2,12 @@ ghost use Rattle.std.specs.Prelude.{◌≡◌, ◌↔◌, IsTrue};
 ghost use Rattle.up_model.specs.Inputs.{source_of};
 ghost use Rattle.up_model.specs.WellFormed.{IsWellFormed, graph_fault};
 
-use crate::faults::{PipeTest, worker_count};
+use crate::faults::{FaultTest, worker_count};
 use crate::inputs::source_of;
 use crate::well_formed::are_pipes;
 use crate::{GraphFault, MAX_PIPES, MAX_WORKERS, PipeList};
 
-/// The pipes of a graph file: 1 to 256, in the order of the file. A pipe's place is its number from 0.
+/// The pipes of a graph, in the order of its file. A pipe's place is its number from 0.
 #[derive(Debug, Drop)]
 pub struct Graph {
     pub pipes: PipeList,
@@ -19,25 +19,25 @@ impl Graph {
         ensures { result ≡ graph_fault self.now.pipes }
     {
         let pipes = &self.pipes;
-        if let Some(place) = PipeTest::SameName.first_place(pipes) {
+        if let Some(place) = FaultTest::SameName.first_place(pipes) {
             return Some(GraphFault::SameName { place });
         }
-        if let Some(place) = PipeTest::UnknownInput.first_place(pipes) {
+        if let Some(place) = FaultTest::UnknownInput.first_place(pipes) {
             return Some(GraphFault::UnknownInput { place });
         }
-        if let Some(place) = PipeTest::Cycle.first_place(pipes) {
+        if let Some(place) = FaultTest::Cycle.first_place(pipes) {
             return Some(GraphFault::Cycle { place });
         }
-        if let Some(place) = PipeTest::ManyOutputs.first_place(pipes) {
+        if let Some(place) = FaultTest::ManyOutputs.first_place(pipes) {
             return Some(GraphFault::ManyOutputs { place });
         }
-        if let Some(place) = PipeTest::NoOutput.first_place(pipes) {
+        if let Some(place) = FaultTest::NoOutput.first_place(pipes) {
             return Some(GraphFault::NoOutput { place });
         }
-        if let Some(place) = PipeTest::WrongFlow.first_place(pipes) {
+        if let Some(place) = FaultTest::WrongFlow.first_place(pipes) {
             return Some(GraphFault::WrongFlow { place });
         }
-        if let Some(place) = PipeTest::SamePath.first_place(pipes) {
+        if let Some(place) = FaultTest::SamePath.first_place(pipes) {
             return Some(GraphFault::SamePath { place });
         }
         let count = worker_count(pipes);

@@ -1,7 +1,7 @@
 // The way along the inputs of pipes.
 ghost use Rattle.std.specs.Prelude.{◌≡◌, slice_get};
 ghost use Rattle.std.specs.Option.{option_map};
-ghost use Rattle.up_model.specs.Inputs.{consumer_count, source_of, takes_from};
+ghost use Rattle.up_model.specs.Inputs.{consumer_count, source_of, is_consumer_of};
 
 use crate::{Pipe, PipeList};
 
@@ -16,8 +16,8 @@ pub(crate) fn pipe_at(pipes: &PipeList, place: usize) -> Option<&Pipe>
     }
 }
 
-fn takes_from(pipe: &Pipe, place: usize) -> bool
-    ensures { result ≡ takes_from place pipe.now }
+fn is_consumer_of(pipe: &Pipe, place: usize) -> bool
+    ensures { result ≡ is_consumer_of place pipe.now }
 {
     pipe.input.is_some_and(|input| usize::from(input) == place)
 }
@@ -27,7 +27,7 @@ pub(crate) fn consumer_count(pipes: &PipeList, place: usize) -> usize
     ensures { result ≡ consumer_count pipes.now place }
 {
     (0..pipes.len())
-        .filter(|number| pipe_at(pipes, *number).is_some_and(|pipe| takes_from(pipe, place)))
+        .filter(|number| pipe_at(pipes, *number).is_some_and(|pipe| is_consumer_of(pipe, place)))
         .count()
 }
 

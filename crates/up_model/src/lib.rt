@@ -47,8 +47,9 @@ pub use form::{SinkForm, SourceForm};
 pub use graph::Graph;
 pub use graph_fault::GraphFault;
 pub use graph_laws::{
-    a_cut_changes_nothing, a_source_feeds_its_own_pipes, carried_bytes_come_first, carried_comes_first, flows_stay_legal, flows_unroll,
-    more_steps_reach_no_other, rules_are_kept, settled_bytes_grow, settled_flows_grow, sources_are_fed, the_first_fault_is_told,
+    a_cut_changes_nothing, a_source_feeds_its_own_pipes, carried_bytes_come_first,
+    carried_comes_first, flows_stay_legal, flows_unroll, more_steps_reach_no_other, rules_are_kept,
+    settled_bytes_grow, settled_flows_grow, sources_are_fed, the_first_fault_is_told,
 };
 pub use kind::Kind;
 pub use laws::{

@@ -10,7 +10,7 @@ pub type OutcomeList = ItemList<Outcome>;
 /// Packets in order.
 pub type PacketList = ItemList<PlainPacket>;
 
-/// Places of pipes. No contract cites them yet: plans of graphs will.
+/// Places of pipes.
 pub type PlaceList = ItemList<u16>;
 
 /// The bytes that each pipe's source could give: one entry a pipe, of which those of sources count.

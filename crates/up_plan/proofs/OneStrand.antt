@@ -45,7 +45,7 @@ module _ (pipes : List Pipe) where
   has_head_of place formed within =
       let source = comes_to_source pipes formed place within in
       weaker_reaches ends_at_source pipes is_head (λ place pipe source. one_of (is_source pipe.kind) (changes_worker pipes pipe) source)
-      (length pipes) place source.0 source.2
+      (length pipes) place source.source source.reached
 
   has_pipe : (head place : ℕ) → head_of pipes place ≡ Some head → place < length pipes
   has_pipe head place is =

@@ -11,4 +11,4 @@ mod tests;
 pub use end_kind::EndKind;
 pub use full::Full;
 pub use item::Item;
-pub use local_lane::{LocalLane, MAX_QUEUE};
+pub use local_lane::LocalLane;

@@ -1,5 +1,6 @@
 ghost use Rattle.std.specs.Prelude.{◌≡◌, ◌<◌, ◌≤◌, ◌↔◌, [], length, IfErr, IfOk, IsErr, OnErr, OnOk};
 ghost use Rattle.up_base.specs.ItemList.{AddsItem, TakesFirst};
+ghost use Rattle.up_model.specs.declared.limits.TheConstants.{MAX_QUEUE};
 ghost use Rattle.up_queue.specs.Lane.{HasRoomFor};
 
 use crate::{Full, Item};
@@ -7,9 +8,6 @@ use circular_buffer::HeapCircularBuffer;
 use std::alloc::Global;
 use std::marker::Model;
 use up_base::NoMemory;
-
-/// The most items that a lane can have room for.
-pub const MAX_QUEUE: u16 = 4_096;
 
 /// Items in the order of their sending, with room for so many of them. It can't be dropped: `end` gives it up once it is
 /// empty. Only `new` takes memory.

@@ -1,5 +1,6 @@
-use crate::{EndKind, Full, Item, LocalLane, MAX_QUEUE};
+use crate::{EndKind, Full, Item, LocalLane};
 use std::process::Abort;
+use up_model::MAX_QUEUE;
 
 /// Gives up a lane from which all was received.
 fn end<P>(rt: &impl Abort, mut lane: LocalLane<P>) {

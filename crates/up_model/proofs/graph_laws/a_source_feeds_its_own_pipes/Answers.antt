@@ -1,4 +1,4 @@
-use Rattle.std.proofs.Common.{◌≡◌, Some, false, cond, None, sym, ap, ◌∙◌}
+use Rattle.std.proofs.Common.{◌∙◌}
 use Rattle.up_model.proofs.FedSources.{fed_reached, unfed_both, fed_alike_at}
 use Rattle.up_model.proofs.Ways.{same_flow}
 use Rattle.up_model.specs.Meaning.{to_sources}

@@ -1,7 +1,6 @@
-use Rattle.std.proofs.Common.{arith, rules, tests, refl, ◌∙◌, sym, length}
+use Rattle.std.proofs.Common.{arith, rules, tests, ◌∙◌, length}
 use Rattle.std.proofs.lemmas.Iterator.{YieldsList-from_range}
 use Rattle.std.proofs.lemmas.Iterator.Search.{position_from_yields_List}
-use Rattle.std.proofs.lemmas.Iterator.Adapters.{position_from-zero}
 use Rattle.up_model.proofs.Places.{passes, position_of_all}
 use Rattle.up_model.specs.Outcomes.{is_cause}
 use Rattle.up_model.proofs.outcome.deciding.Goals as goal

@@ -2,7 +2,7 @@ use Rattle.std.proofs.Common.{arith, rules, tests, refl, ◌∙◌}
 use Rattle.std.proofs.lemmas.Iterator.{YieldsList-from_range}
 use Rattle.std.proofs.lemmas.Iterator.Search.{any_from_yields_List}
 use Rattle.up_model.proofs.Places.{passes, any_of_first}
-use Rattle.up_model.specs.PipeTests.{are_alike}
+use Rattle.up_model.specs.FaultTests.{are_alike}
 use Rattle.up_model.specs.declared.pipe.Pipe.{Pipe}
 use Rattle.up_model.proofs.faults.Common.is_shared_before.Goals as goal
 
