@@ -1,4 +1,4 @@
-// The slow meaning: what sources, pipes and sinks do, as programs over whole lists of packets. Other layers are compared with it.
+// The slow meaning: sources, pipes and sinks as programs over whole lists of packets, with which other layers are compared.
 ghost use Rattle.std.specs.Prelude.{◌≡◌, true, false, length, slice_get, All, IfOk, IfSome};
 ghost use Rattle.up_model.specs.Ends.{is_source, is_sink, is_between};
 ghost use Rattle.up_model.specs.Inputs.{IsPlaceOf};
@@ -106,8 +106,9 @@ pub fn plain_output(
     requires well_formed { IsWellFormed graph.now.pipes }
     requires each { length given.now ≡ length graph.now.pipes }
     requires sink { IsPlaceOf is_sink graph.now.pipes sink }
-    ensures { IfOk result (λ bytes. IfSome (slice_get graph.now.pipes sink) (λ own.
-        bytes ≡ sink_bytes graph.now.pipes (given_flows graph.now.pipes (bytes_at given.now)) own)) }
+    ensures { let flows = given_flows graph.now.pipes (bytes_at given.now) in
+        IfOk result (λ bytes. IfSome (slice_get graph.now.pipes sink) (λ own.
+        bytes ≡ sink_bytes graph.now.pipes flows own)) }
 {
     match graph.pipes.at(sink).input {
         None => plain_sink(alloc, graph, sink, &PacketList::new(alloc)),

@@ -1,4 +1,4 @@
-use Rattle.std.proofs.Common.{◌≡◌, Some, ◌∙◌, sym, rules}
+use Rattle.std.proofs.Common.{◌≡◌, Some, ◌∙◌, rules}
 use Rattle.up_model.proofs.PlainFlows.{takes_all}
 use Rattle.up_model.specs.Outcomes.{given_flows, bytes_at}
 use Rattle.up_model.proofs.plain.plain_output.Goals as goal

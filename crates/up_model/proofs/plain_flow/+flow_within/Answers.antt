@@ -1,4 +1,4 @@
-use Rattle.std.proofs.Common.{◌≡◌, ◌<◌, ◌-◌, [], Some, None, slice_get, true, false, refl, ◌∙◌, sym, rules, arith}
+use Rattle.std.proofs.Common.{◌≡◌, ◌<◌, ◌-◌, Some, None, slice_get, true, false, refl, ◌∙◌, sym, rules, arith}
 use Rattle.up_model.proofs.PlainFlows.{source_flow, sink_flow, other_flow, takes_all, takes_nothing, given_source}
 use Rattle.up_model.specs.Ends.{is_source, is_sink}
 use Rattle.up_model.specs.Outcomes.{given_flows, bytes_at}
