@@ -55,7 +55,7 @@ module _ (pipes : List Pipe) where
   strand_has head place is =
       filter_has _ (places pipes) place (places_have pipes place (has_pipe head place is)) (rw is (eq-eqb head head refl))
 
-  pub in_strand : (head place : ℕ) → Contains (strand_of pipes head) place → head_of pipes place ≡ Some head
+  in_strand : (head place : ℕ) → Contains (strand_of pipes head) place → head_of pipes place ≡ Some head
   in_strand head place there = same_head (head_of pipes place) head (kept_passes _ (places pipes) place there)
 
   pub own_head : (head : ℕ) → Contains (heads pipes) head → head_of pipes head ≡ Some head
