@@ -106,8 +106,9 @@ pub fn plain_output(
     requires well_formed { IsWellFormed graph.now.pipes }
     requires each { length given.now ≡ length graph.now.pipes }
     requires sink { IsPlaceOf is_sink graph.now.pipes sink }
-    ensures { IfOk result (λ bytes. IfSome (slice_get graph.now.pipes sink) (λ own.
-        bytes ≡ sink_bytes graph.now.pipes (source_flows graph.now.pipes (bytes_at given.now)) own)) }
+    ensures { let flows = source_flows graph.now.pipes (bytes_at given.now) in
+        IfOk result (λ bytes. IfSome (slice_get graph.now.pipes sink) (λ own.
+        bytes ≡ sink_bytes graph.now.pipes flows own)) }
 {
     match graph.pipes.at(sink).input {
         None => plain_sink(alloc, graph, sink, &PacketList::new(alloc)),
