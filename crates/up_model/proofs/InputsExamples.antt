@@ -3,7 +3,7 @@ use Rattle.std.proofs.Common.{◌≡◌, ℕ, [], ◌∷◌, Some, None, false, 
 use Rattle.std.specs.Prelude.{codes}
 use Rattle.up_model.proofs.ExampleChain.{pipe, three_pipes}
 use Rattle.up_model.proofs.ExampleTree.{tree, archive}
-use Rattle.up_model.specs.Inputs.{passes_at, places, first_place, consumer_count, input_pipe, reached_within, ends_at_source, source_of}
+use Rattle.up_model.specs.Inputs.{passes_at, places, first_place, consumer_count, input_at, input_pipe, reached_within, ends_at_source, source_of}
 use Rattle.up_model.specs.declared.kind.Kind.TheVariants.{Idem, Dup}
 use Rattle.up_model.specs.declared.pipe.Pipe.{Pipe}
 
@@ -14,6 +14,10 @@ from place = pipe (codes "pass") (Some place) Idem
 -- a source is its own source; a pipe that stands before its input has one too
 pub sources : (source_of tree 1 ≡ Some 1) × (source_of tree 0 ≡ Some 1) × (source_of tree 6 ≡ Some 1) × (source_of tree 3 ≡ Some 2)
 sources = (refl, refl, refl, refl)
+
+-- the input of a place, where a pipe with one stands there
+pub inputs : (input_at tree 0 ≡ Some 4) × (input_at tree 1 ≡ None) × (input_at tree 7 ≡ None)
+inputs = (refl, refl, refl)
 
 -- as many steps as there are pipes reach the source of the last of a chain, and one fewer don't
 pub whole_chain : (source_of three_pipes 2 ≡ Some 0) × (reached_within 2 ends_at_source three_pipes 2 ≡ None)

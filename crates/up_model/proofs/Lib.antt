@@ -36,6 +36,7 @@ pub mod PlainKinds
 pub mod PlainLegal
 pub mod PlainSteps
 pub mod Shares
+pub mod SharesExamples
 pub mod Skip
 pub mod SkipExamples
 pub mod SortedEntries

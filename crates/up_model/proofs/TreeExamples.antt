@@ -3,7 +3,7 @@ use Rattle.std.proofs.Common.{◌≡◌, true, false, List, ℕ, if◌then◌els
 use Rattle.std.specs.Prelude.{◌==◌, codes}
 use Rattle.up_model.proofs.ExampleChain.{pipe, raw_source}
 use Rattle.up_model.proofs.ExampleTree.{tree, given, archive, tails, other}
-use Rattle.up_model.specs.Meaning.{wholly, Doing, to_sources, flow_at, flow_by, selected, tally_of, sink_bytes, settled_bytes}
+use Rattle.up_model.specs.Meaning.{wholly, Doing, Feeding, to_sources, bytes_by, flow_at, flow_by, selected, tally_of, sink_bytes, settled_bytes}
 use Rattle.up_model.specs.Packet.{plain}
 use Rattle.up_model.specs.Work.{no_work}
 use Rattle.up_model.specs.declared.kind.Kind.TheVariants.{Idem, Skip}
@@ -16,6 +16,13 @@ both_branches = (refl, refl)
 -- the kinds of this tree hold nothing back, so all of it is settled
 pub settled_too : (settled_bytes tree given archive ≡ codes "abcdefghij") × (settled_bytes tree given tails ≡ codes "dh")
 settled_too = (refl, refl)
+
+-- a strand is fed at its head: here the `skip`, which stands at place 5, is fed what came through its lane, whatever the sources do
+abbrev at_skip : Feeding
+at_skip place = if place == 5 then Some (plain (codes "abcd") ∷ plain (codes "xy") ∷ []) else None
+
+pub fed_at_a_head : (flow_by wholly tree at_skip 5 ≡ plain (codes "d") ∷ []) × (bytes_by wholly tree at_skip 6 tails ≡ codes "d") × (flow_by wholly tree at_skip 4 ≡ [])
+fed_at_a_head = (refl, refl, refl)
 
 -- where the `dup`, which stands at place 4, does nothing with what it takes, neither of its consumers takes anything
 abbrev stopped_at_dup : Doing

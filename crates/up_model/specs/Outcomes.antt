@@ -56,8 +56,8 @@ carried_flow kind bytes = carried_as (outcome_of kind bytes) kind bytes
 
 -- by place: what each source carried, by how it ended and the bytes that it was given
 abbrev pub carried_flows : List Pipe → (ℕ → Outcome) → (ℕ → List ℕ) → ℕ → Flow
-carried_flows pipes ends bytes place =
-    option_map_or (λ pipe. carried_as (ends place) pipe.kind (bytes place)) (slice_get pipes place) []
+carried_flows pipes ends bytes place = option_map_or
+    (λ pipe. carried_as (ends place) pipe.kind (bytes place)) (slice_get pipes place) []
 
 -- the same where each source counts with all of its bytes
 abbrev pub source_flows : List Pipe → (ℕ → List ℕ) → ℕ → Flow

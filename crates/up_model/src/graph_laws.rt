@@ -44,7 +44,8 @@ pub fn rules_are_kept()
 
 /// A fault that is told is the first of its test: a pipe stands at its place and has it, and no pipe before it.
 pub fn the_first_fault_is_told()
-    ensures { (pipes : List ThePipe) (fault : TheFault) → graph_fault pipes ≡ Some fault → IsTold pipes fault }
+    ensures { (pipes : List ThePipe) (fault : TheFault) → graph_fault pipes ≡ Some fault
+        → IsTold pipes fault }
 {}
 
 /// What is reached along inputs in any number of steps is reached in as many as there are pipes.

@@ -29,7 +29,8 @@ pub fn plain_source(
     ensures whole { whole ≡ true → IfOk result (λ packets.
         IfSome (slice_get graph.now.pipes pipe) (λ own. packets ≡ source_flow own.kind bytes.now)) }
     ensures settled { whole ≡ false → IfOk result (λ packets.
-        IfSome (slice_get graph.now.pipes pipe) (λ own. packets ≡ settled_source_flow own.kind bytes.now)) }
+        IfSome (slice_get graph.now.pipes pipe)
+        (λ own. packets ≡ settled_source_flow own.kind bytes.now)) }
     ensures legal { IfOk result (All IsLegal) }
 {
     match &graph.pipes.at(pipe).kind {

@@ -18,8 +18,9 @@ pub(crate) fn flow_within(
 ) -> Result<PacketList, NoMemory>
     requires well_formed { IsWellFormed graph.now.pipes }
     requires each { length given.now ≡ length graph.now.pipes }
-    ensures flow { let fed = to_sources graph.now.pipes (source_flows graph.now.pipes (bytes_at given.now)) in
-        IfOk result (λ put. put ≡ flow_within wholly graph.now.pipes fed steps place) }
+    ensures flow { let pipes = graph.now.pipes in
+        let fed = to_sources pipes (source_flows pipes (bytes_at given.now)) in
+        IfOk result (λ put. put ≡ flow_within wholly pipes fed steps place) }
     ensures legal { IfOk result (All IsLegal) }
 {
     if steps == 0 || graph.pipes.len() <= place {
