@@ -1,0 +1,2 @@
+pub mod AnyModule
+pub mod Writing

@@ -1,0 +1,11 @@
+//! The nodes of a strand, and the sweep that carries packets through them.
+#![tactic(auto)]
+
+mod any_module;
+mod sink_packet;
+
+pub use any_module::AnyModule;
+pub use sink_packet::write_packet;
+
+#[cfg(test)]
+mod write_tests;
