@@ -1,2 +1,3 @@
 pub mod AnyModule
+pub mod Nodes
 pub mod Writing

@@ -2,9 +2,11 @@
 #![tactic(auto)]
 
 mod any_module;
+mod node;
 mod sink_packet;
 
 pub use any_module::AnyModule;
+pub use node::{Node, Part, Takers};
 pub use sink_packet::write_packet;
 
 #[cfg(test)]
