@@ -1,2 +1,5 @@
+pub mod Gives
+pub mod Lists
 pub mod NodeSteps
+pub mod Passing
 pub mod Writes

@@ -2,10 +2,12 @@
 #![tactic(auto)]
 
 mod any_module;
+mod giving;
 mod node;
 mod sink_packet;
 
 pub use any_module::AnyModule;
+pub use giving::give;
 pub use node::{Node, Part, Takers};
 pub use sink_packet::write_packet;
 

@@ -4,7 +4,7 @@ ghost use Rattle.up_model.specs.Packet.{IsLegal};
 ghost use Rattle.up_outside.specs.Counts.{CountsWhere};
 ghost use Rattle.up_outside.specs.States.{SinkState};
 ghost use Rattle.up_shape.specs.Stores.{Stays};
-ghost use Rattle.up_strand.specs.Nodes.{IsTaking, IsSound, IsDone, IsAsPlaced, NodeFits, Took, has_ended, is_outlet, is_pipe, is_whole};
+ghost use Rattle.up_strand.specs.Nodes.{IsTaking, IsSound, IsDone, IsAsPlaced, NodeFits, Took, has_ended, is_outlet, is_pipe, is_whole, takes_from};
 ghost use Rattle.up_strand.specs.Writing.{Receives};
 
 use crate::any_module::AnyModule;
@@ -202,6 +202,13 @@ impl<P: LocalPacket, K: Sink> Node<P, K> {
             return;
         }
         give_up_waiting(&mut self.out, s);
+    }
+
+    /// Whether it takes what the node at the place puts out.
+    pub fn takes_from(&self, place: usize) -> bool
+        ensures { result ≡ takes_from self.now.input place }
+    {
+        self.input == Some(place)
     }
 
     /// Whether what it puts out is left there for another strand.
