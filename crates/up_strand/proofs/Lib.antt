@@ -2,4 +2,5 @@ pub mod Gives
 pub mod Lists
 pub mod NodeSteps
 pub mod Passing
+pub mod Sweeping
 pub mod Writes

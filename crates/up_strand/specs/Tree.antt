@@ -51,8 +51,10 @@ pub record IsOrder (rank : ℕ → ℕ) (count : ℕ) (order : List ℕ) : Type 
   pub rising : (k l d : ℕ) → k ≤ l → l < length order
       → rank (slice_index_or order k d) ≤ rank (slice_index_or order l d)
 
--- the nodes are a tree, which this order sweeps from its head on
+-- the nodes are a tree, which this order sweeps from its head on; the head alone takes from no node
 pub record IsSwept {P K : Type 0} (order : List ℕ) (nodes : List (Node P K)) : Type 0 where
   pub rank : ℕ → ℕ
   pub tree : IsTree rank nodes
   pub sweeps : IsOrder rank (length nodes) order
+  pub head : (i : ℕ) (d : Node P K) → i < length nodes
+      → (slice_index_or nodes i d).input ≡ None → (e : ℕ) → slice_index_or order 0 e ≡ i

@@ -5,11 +5,13 @@ mod any_module;
 mod giving;
 mod node;
 mod sink_packet;
+mod sweep;
 
 pub use any_module::AnyModule;
-pub use giving::give;
+pub use giving::{give, pass_on};
 pub use node::{Node, Part, Takers};
 pub use sink_packet::write_packet;
+pub use sweep::{feed_head, settle};
 
 #[cfg(test)]
 mod write_tests;
