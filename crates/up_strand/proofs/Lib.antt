@@ -1,3 +1,4 @@
+pub mod Finishing
 pub mod Gives
 pub mod Lists
 pub mod NodeSteps

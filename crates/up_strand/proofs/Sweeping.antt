@@ -91,11 +91,11 @@ module _ {P K : Type 0} (plain : P → PlainPacket) (state : K → SinkState) (p
       ]
 
   -- nothing waits at the nodes that were swept, nor at the one that is swept now
-  pub settled_passed : (order : List ℕ) (k e0 : ℕ) (well : Bool) → IsSwept order olds → k < length order → get_or order k e0 ≡ place
-      → Passes plain state well place olds news
+  pub settled_passed : (order : List ℕ) (k e0 : ℕ) → IsSwept order olds → k < length order → get_or order k e0 ≡ place
+      → ((i : ℕ) (d : Node P K) → i < length olds → i ≢ place → takes_from (get_or olds i d).input place ≡ false → get_or news i d ≡ get_or olds i d)
       → ((l : ℕ) (d : Node P K) (e : ℕ) → l < k → IsSettled (get_or olds (get_or order l e) d)) → IsSettledAt place news
       → (l : ℕ) (d : Node P K) (e : ℕ) → l < k + 1 → IsSettled (get_or news (get_or order l e) d)
-  settled_passed order k e0 well swept within at passed before here l d e below =
+  settled_passed order k e0 swept within at still before here l d e below =
       let i = get_or order l e in
       let now : (m : ℕ) → get_or order k m ≡ place = λ m. get_or_default order k m e0 within ∙ at in
       elim (cases_lt l k) [
@@ -105,7 +105,7 @@ module _ {P K : Type 0} (plain : P → PlainPacket) (state : K → SinkState) (p
               let inside : i < length olds = swept.sweeps.within l e (omega arith) in
               let none : takes_from (get_or olds i d).input place ≡ false =
               subst (λ (n : ℕ). takes_from (get_or olds i d).input n ≡ false) (now e) (swept_untaken order olds swept l k e d (omega arith) within) in
-              rw ((passed.others i d inside other.1).still none) (before l d e earlier)
+              rw (still i d inside other.1 none) (before l d e earlier)
         ]
         | inr later ↦
             let is : i ≡ place = ap (λ m. get_or order m e) (let same_k : l ≡ k = omega arith in same_k) ∙ now e in

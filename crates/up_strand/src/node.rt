@@ -5,6 +5,7 @@ ghost use Rattle.up_outside.specs.Counts.{CountsWhere};
 ghost use Rattle.up_outside.specs.States.{SinkState};
 ghost use Rattle.up_shape.specs.Stores.{Stays};
 ghost use Rattle.up_strand.specs.Nodes.{IsTaking, IsSound, IsDone, IsAsPlaced, NodeFits, Took, has_ended, is_outlet, is_pipe, is_whole, takes_from};
+ghost use Rattle.up_strand.specs.Stand.{IsSettled};
 ghost use Rattle.up_strand.specs.Writing.{Receives};
 
 use crate::any_module::AnyModule;
@@ -202,6 +203,21 @@ impl<P: LocalPacket, K: Sink> Node<P, K> {
             return;
         }
         give_up_waiting(&mut self.out, s);
+    }
+
+    /// Memory ran out: it gives up what it holds, but for what is left for another strand, and what it takes from now on.
+    pub fn abandon(&mut self, s: &mut P::Store)
+        requires family { NodeFits P.fits self.old (P.Store.state s.old).family }
+        ensures took { Took P.plain K.state self.old self.new [] }
+        ensures settled { IsSettled self.new }
+        ensures short { self.new.short ≡ true }
+        ensures taking { IsTaking self.old → IsTaking self.new }
+        ensures placed { IsAsPlaced self.old self.new }
+        ensures family { NodeFits P.fits self.new (P.Store.state s.old).family }
+        ensures store { Stays (P.Store.state s.old) (P.Store.state s.new) }
+    {
+        self.fall(s);
+        self.empty(s);
     }
 
     /// Whether it takes what the node at the place puts out.

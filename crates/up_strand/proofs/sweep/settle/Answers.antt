@@ -28,7 +28,8 @@ loop-k-preserved g c =
     let swept = swept_on order init olds c.loop-k.auto.nodes inv.placed c.requires.swept in
     record {
       stand = stand_on plain state init olds news [] [] c.loop-k.auto.nodes inv.placed inv.stand passed.stand;
-      settled = settled_passed plain state place olds news same order c.loop-k.k 0 true swept c.loop-k-test.true refl passed inv.settled c.in-Ok.ensures.settled;
+      settled = settled_passed plain state place olds news same order c.loop-k.k 0 swept c.loop-k-test.true refl
+          (λ i d inside other. (passed.others i d inside other).still) inv.settled c.in-Ok.ensures.settled;
       sound = λ sound. sound_passed plain state place olds news same passed (inv.sound sound);
       taking = taking_passed plain state place olds news same true passed inv.taking;
       placed = pairs_on IsAsPlaced IsAsPlaced IsAsPlaced init olds news c.loop-k.auto.nodes placed_on inv.placed (placed_passed plain state place true olds news passed);
