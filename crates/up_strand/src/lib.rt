@@ -17,3 +17,5 @@ pub use sweep::{feed_head, settle};
 
 #[cfg(test)]
 mod write_tests;
+#[cfg(test)]
+mod giving_tests;
