@@ -1,0 +1,7 @@
+pub mod Finishing
+pub mod Gives
+pub mod Lists
+pub mod NodeSteps
+pub mod Passing
+pub mod Sweeping
+pub mod Writes

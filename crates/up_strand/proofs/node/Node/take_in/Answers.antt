@@ -1,0 +1,50 @@
+use Rattle.std.proofs.Common.{◌≡◌, ◌∙◌, ap, [], ◌∷◌, refl}
+use Rattle.std.proofs.lemmas.List.Elements.{All-cons, All-nil}
+use Rattle.up_model.specs.Packet.{IsLegal}
+use Rattle.up_model.specs.Tallies.{added}
+use Rattle.up_strand.proofs.NodeSteps.{pipe_took, pipe_fell, sink_took, head_took, outlet_took, short_took}
+use Rattle.up_strand.proofs.node.Node.take_in.Goals as goal
+
+pub returns-in-Ok-clause-took : goal.returns-in-Ok-clause-took
+returns-in-Ok-clause-took g c =
+    pipe_took g.P.LocalPacket.plain g.K.Sink.state c.args.self.now _ (g.P.LocalPacket.plain c.args.p) c.requires.legal c.requires.sound.long
+    _ _ c.in-Pipe.is refl c.requires.sound.long c.feed.ensures.kind c.in-Ok.ensures.stands c.in-Ok.ensures.grew
+
+pub returns-in-Err-clause-took : goal.returns-in-Err-clause-took
+returns-in-Err-clause-took g c =
+    pipe_fell g.P.LocalPacket.plain g.K.Sink.state c.args.self.now _ (g.P.LocalPacket.plain c.args.p) c.requires.legal c.requires.sound.long
+    _ _ c.in-Pipe.is refl refl c.feed.ensures.kind c.in-Err.ensures.in_part
+
+pub returns-in-Ok-written-clause-took : goal.returns-in-Ok-written-clause-took
+returns-in-Ok-written-clause-took g c =
+    sink_took g.P.LocalPacket.plain g.K.Sink.state c.args.self.now _ (g.P.LocalPacket.plain c.args.p) c.requires.legal c.requires.sound.long
+    _ _ _ _ c.in-Sink.is refl (rw c.requires.sound.long c.in-Ok-written.ensures.bytes) c.in-Ok-written.ensures.faults
+    c.add_tally.ensures.packets (c.add_tally.ensures.tally ∙ ap (added c.args.self.now.out.tally) c.of_sink.ensures)
+
+pub returns-in-Err-written-clause-took : goal.returns-in-Err-written-clause-took
+returns-in-Err-written-clause-took g c =
+    sink_took g.P.LocalPacket.plain g.K.Sink.state c.args.self.now _ (g.P.LocalPacket.plain c.args.p) c.requires.legal c.requires.sound.long
+    _ _ _ _ c.in-Sink.is refl c.in-Err-written.ensures.bytes c.in-Err-written.ensures.faults
+    c.add_tally.ensures.packets (c.add_tally.ensures.tally ∙ ap (added c.args.self.now.out.tally) c.of_sink.ensures)
+
+pub returns-in-Ok-put_out-clause-took : goal.returns-in-Ok-put_out-clause-took
+returns-in-Ok-put_out-clause-took g c =
+    head_took g.P.LocalPacket.plain g.K.Sink.state c.args.self.now _ (g.P.LocalPacket.plain c.args.p) c.requires.legal c.requires.sound.long
+    c.args.p refl c.in-Head.is c.in-Head.is c.requires.sound.long
+    (c.add_tally-in-Ok-put_out.ensures.packets ∙ c.in-Ok-put_out.ensures.added)
+    (c.add_tally-in-Ok-put_out.ensures.tally ∙ ap (λ t. added t c.of_head.result) c.put_out.ensures.tally ∙ ap (added c.args.self.now.out.tally) c.of_head.ensures)
+
+pub returns-in-Err-put_out-clause-took : goal.returns-in-Err-put_out-clause-took
+returns-in-Err-put_out-clause-took g c =
+    short_took g.P.LocalPacket.plain g.K.Sink.state c.args.self.now _ (g.P.LocalPacket.plain c.args.p ∷ [])
+    refl refl c.in-Err-put_out.ensures.unchanged (rw c.in-Head.is refl) (All-cons IsLegal _ [] c.requires.legal (All-nil IsLegal))
+
+pub returns-in-Ok-put_out-2-clause-took : goal.returns-in-Ok-put_out-2-clause-took
+returns-in-Ok-put_out-2-clause-took g c =
+    outlet_took g.P.LocalPacket.plain g.K.Sink.state c.args.self.now _ (g.P.LocalPacket.plain c.args.p) c.requires.legal c.requires.sound.long
+    c.args.p refl c.in-Outlet.is c.in-Outlet.is c.requires.sound.long c.in-Ok-put_out-2.ensures.added c.put_out-in-Outlet.ensures.tally
+
+pub returns-in-Err-put_out-2-clause-took : goal.returns-in-Err-put_out-2-clause-took
+returns-in-Err-put_out-2-clause-took g c =
+    short_took g.P.LocalPacket.plain g.K.Sink.state c.args.self.now _ (g.P.LocalPacket.plain c.args.p ∷ [])
+    refl refl c.in-Err-put_out-2.ensures.unchanged (rw c.in-Outlet.is refl) (All-cons IsLegal _ [] c.requires.legal (All-nil IsLegal))

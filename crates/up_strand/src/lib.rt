@@ -1,0 +1,21 @@
+//! The nodes of a strand, and the sweep that carries packets through them.
+#![tactic(auto)]
+
+mod any_module;
+mod ending;
+mod giving;
+mod node;
+mod sink_packet;
+mod sweep;
+
+pub use any_module::AnyModule;
+pub use ending::{break_all, end_all, fall};
+pub use giving::{give, pass_on};
+pub use node::{Node, Part, Takers};
+pub use sink_packet::write_packet;
+pub use sweep::{feed_head, settle};
+
+#[cfg(test)]
+mod write_tests;
+#[cfg(test)]
+mod giving_tests;

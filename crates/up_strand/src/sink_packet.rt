@@ -1,0 +1,42 @@
+ghost use Rattle.std.specs.Prelude.{is_ok};
+ghost use Rattle.up_outside.specs.Counts.{CountsWhere, is_failed};
+ghost use Rattle.up_strand.specs.Writing.{Receives};
+
+use up_base::Refusal;
+use up_outside::Sink;
+use up_shape::LocalPacket;
+
+/// Writes a piece by as many writes as it takes. After a refusal a prefix of it was written.
+fn drain<K: Sink>(sink: &mut K, piece: &[u8]) -> Result<(), Refusal>
+    ensures bytes { Receives (K.state sink.old) (K.state sink.new) (is_ok result) piece.now }
+    ensures faults { CountsWhere (is_failed result)
+        (K.state sink.old).faults (K.state sink.new).faults }
+{
+    let mut count = 0;
+    while count < piece.len() {
+        match sink.write(&piece[count..]) {
+            Ok(more) => count += more,
+            Err(refusal) => return Err(refusal),
+        }
+    }
+    Ok(())
+}
+
+/// Writes the bytes of a packet from where they lie, a run at a time. After a refusal a prefix of them was written.
+pub fn write_packet<P: LocalPacket, K: Sink>(p: &P, sink: &mut K) -> Result<(), Refusal>
+    ensures bytes { Receives (K.state sink.old) (K.state sink.new)
+        (is_ok result) (P.plain p.now).bytes }
+    ensures faults { CountsWhere (is_failed result)
+        (K.state sink.old).faults (K.state sink.new).faults }
+{
+    let size = p.size();
+    let mut at = 0;
+    while at < size {
+        let run = p.bytes_at(at);
+        match drain(sink, run) {
+            Ok(()) => at += run.len() as u32,
+            Err(refusal) => return Err(refusal),
+        }
+    }
+    Ok(())
+}
