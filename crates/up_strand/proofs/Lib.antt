@@ -1,0 +1,2 @@
+pub mod ReadPackets
+pub mod Rooms
