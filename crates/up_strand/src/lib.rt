@@ -3,3 +3,5 @@
 
 mod fill;
 mod read_packet;
+#[cfg(test)]
+mod read_tests;
