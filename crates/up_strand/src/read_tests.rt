@@ -106,7 +106,7 @@ fn add(packets: &mut Bytes, packet: VecPacket) -> Result<(), Fail> {
     Ok(())
 }
 
-/// Reads a source of at most `MAX_LIMIT` bytes to the end of its flow.
+/// Reads a source to the end of its flow.
 fn read_all(
     source: &mut MemSource,
     block: u32,
@@ -117,9 +117,9 @@ fn read_all(
     requires block { 0 < block }
 {
     let block = block.min(MAX_BLOCK);
-    let mut left = limit.min(MAX_LIMIT);
+    let mut left = limit;
     for _ in 0..1_000 {
-        match read_packet(source, block, left, s) {
+        match read_packet(source, block, left.min(MAX_LIMIT), s) {
             Next::Packet(packet) => {
                 add(packets, packet)?;
                 left -= u64::from(block);
