@@ -1,10 +1,12 @@
-//! The nodes of a strand, and the sweep that carries packets through them.
+//! A strand: a source, or a pipe behind a lane, and the tree of pipes behind it that one worker runs, a packet at a time.
 #![tactic(auto)]
 
 mod any_module;
 mod ending;
+mod fill;
 mod giving;
 mod node;
+mod read_packet;
 mod sink_packet;
 mod sweep;
 
@@ -12,10 +14,13 @@ pub use any_module::AnyModule;
 pub use ending::{break_all, end_all, fall};
 pub use giving::{give, pass_on};
 pub use node::{Node, Part, Takers};
+pub use read_packet::{Next, read_packet};
 pub use sink_packet::write_packet;
 pub use sweep::{feed_head, settle};
 
 #[cfg(test)]
-mod write_tests;
-#[cfg(test)]
 mod giving_tests;
+#[cfg(test)]
+mod read_tests;
+#[cfg(test)]
+mod write_tests;

@@ -1,0 +1,79 @@
+-- What is read of a source, a packet's worth at a time.
+use Rattle.std.specs.Prelude.{◌≡◌, ℕ, ◌+◌, ◌<◌, ◌≤◌, Bool, true, false, List, [], length, take, Option}
+use Rattle.std.specs.Io.KnownBytes.{Consumes, IsAtEnd}
+use Rattle.up_model.specs.Packet.{plain as bare}
+use Rattle.up_model.specs.declared.plain_packet.PlainPacket.{PlainPacket}
+use Rattle.up_outside.specs.Counts.{CountsWhere}
+use Rattle.up_outside.specs.States.{SourceState}
+use Rattle.up_outside.specs.Told.{Then}
+use Rattle.up_strand.specs.declared.fill.Filled.{Filled}
+use Rattle.up_strand.specs.declared.fill.Stop.{Stop}
+use Rattle.up_strand.specs.declared.fill.Stop.TheVariants as stops
+use Rattle.up_strand.specs.declared.read_packet.Next.{Next}
+use Rattle.up_strand.specs.declared.read_packet.Next.TheVariants.{Packet, Last, End, Fault, TooLong, NoMemory}
+
+-- these bytes were read, so many, and the entry is the same
+pub record Took (old new : SourceState) (bytes : List ℕ) (count : ℕ) : Type 0 where
+  pub bytes_of : Consumes old.left new.left bytes
+  pub sum : Then (λ before after. after ≡ before + count) old.moved new.moved
+  pub place : new.place ≡ old.place
+
+-- it stopped at a fault
+abbrev pub is_fault : Stop → Bool
+is_fault stops.Full = false
+is_fault stops.End = false
+is_fault stops.Fault = true
+
+-- the front of the room was filled
+pub record Fills (old new : SourceState) (room : List ℕ) (filled : Filled) : Type 0 where
+  pub took : Took old new (take filled.count room) filled.count
+  pub end : filled.stop ≡ stops.End → IsAtEnd new.left
+  pub faults : CountsWhere (is_fault filled.stop) old.faults new.faults
+
+-- the answer is a fault of the source
+abbrev pub is_read_fault : {P : Type 0} → Next P → Bool
+is_read_fault (Packet p) = false
+is_read_fault (Last p) = false
+is_read_fault End = false
+is_read_fault Fault = true
+is_read_fault TooLong = false
+is_read_fault NoMemory = false
+
+module _ {P : Type 0} (plain : P → PlainPacket) (block left : ℕ) where
+  -- what the bytes that were taken are, by the answer: a block, or fewer at the end; what doesn't become a packet is given up
+  abbrev pub AreReadAs : Option (List ℕ) → List ℕ → Next P → Type 0
+  AreReadAs rest taken (Packet p) = (plain p ≡ bare taken) × (length taken ≡ block) × (block ≤ left)
+  AreReadAs rest taken (Last p) =
+      (plain p ≡ bare taken) × (0 < length taken) × (length taken < block)
+      × (length taken ≤ left) × IsAtEnd rest
+  AreReadAs rest taken End = (taken ≡ []) × IsAtEnd rest
+  AreReadAs rest taken Fault = (length taken < block) × (length taken ≤ left)
+  AreReadAs rest taken TooLong = length taken ≡ left + 1
+  AreReadAs rest taken NoMemory = Unit {0}
+
+  -- a source that may give so many bytes more gave at most a block, and at most one byte more than that
+  pub record ReadsPacket (old new : SourceState) (next : Next P) : Type 0 where
+    pub taken : List ℕ
+    pub took : Took old new taken (length taken)
+    pub in_block : length taken ≤ block
+    pub in_limit : length taken ≤ left + 1
+    pub are : AreReadAs new.left taken next
+    pub faults : CountsWhere (is_read_fault next) old.faults new.faults
+
+-- the packet is of the family
+abbrev pub NextFits : {P F : Type 0} → (P → F → Type 0) → F → Next P → Type 0
+NextFits fits family (Packet p) = fits p family
+NextFits fits family (Last p) = fits p family
+NextFits fits family End = Unit {0}
+NextFits fits family Fault = Unit {0}
+NextFits fits family TooLong = Unit {0}
+NextFits fits family NoMemory = Unit {0}
+
+-- more was drawn of the store for each packet
+abbrev pub DrewFor : {P : Type 0} → ℕ → ℕ → Next P → Type 0
+DrewFor before now (Packet p) = before < now
+DrewFor before now (Last p) = before < now
+DrewFor before now End = Unit {0}
+DrewFor before now Fault = Unit {0}
+DrewFor before now TooLong = Unit {0}
+DrewFor before now NoMemory = Unit {0}
