@@ -73,8 +73,8 @@ pub record Seat : Type 0 where
 -- the work of a node that took this flow, wholly or so far. A source puts out what it is given, an outlet what it takes.
 abbrev pub node_work : Bool → Option Kind → Flow → Work
 node_work whole None fed = record { flow = fed; tally = nothing }
-node_work false (Some kind) fed = done_by so_far 0 kind fed fed
-node_work true (Some kind) fed = done_by wholly 0 kind fed fed
+node_work false (Some kind) fed = done_by so_far 0 kind fed
+node_work true (Some kind) fed = done_by wholly 0 kind fed
 
 -- of this work, what hasn't left waits in the outbox, but for what is lacking where memory ran out; else the outbox has counted it
 pub record Holds {P : Type 0} (plain : P → PlainPacket) (short : Bool) (work : Work) (out : Outgoing P) (gone : Flow) : Type 0 where
