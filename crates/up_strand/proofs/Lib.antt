@@ -3,6 +3,7 @@ pub mod Gives
 pub mod Lists
 pub mod NodeSteps
 pub mod Passing
+pub mod Reaching
 pub mod ReadPackets
 pub mod Rooms
 pub mod Sweeping

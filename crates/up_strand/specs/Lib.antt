@@ -1,6 +1,7 @@
 pub mod AnyModule
 pub mod Gifts
 pub mod Nodes
+pub mod OfGraph
 pub mod Reads
 pub mod Stand
 pub mod Tree
