@@ -6,7 +6,7 @@ use Rattle.up_outside.specs.Counts.{CountsWhere}
 use Rattle.up_outside.specs.States.{SourceState}
 use Rattle.up_strand.specs.Reads.{Took, Fills, is_fault, is_read_fault, AreReadAs, ReadsPacket}
 use Rattle.up_strand.specs.declared.fill.Filled.{Filled}
-use Rattle.up_strand.specs.declared.read_packet.Next.{Next}
+use Rattle.up_strand.specs.declared.source_packet.Next.{Next}
 
 -- the answer tells what the bytes of the room are, and a fault where the filling met one
 pub read_as : {P : Type 0} (plain : P → PlainPacket) (block left want : ℕ) (old new : SourceState) (room : List ℕ) (filled : Filled) (next : Next P)

@@ -9,8 +9,8 @@ use Rattle.up_outside.specs.Told.{Then}
 use Rattle.up_strand.specs.declared.fill.Filled.{Filled}
 use Rattle.up_strand.specs.declared.fill.Stop.{Stop}
 use Rattle.up_strand.specs.declared.fill.Stop.TheVariants as stops
-use Rattle.up_strand.specs.declared.read_packet.Next.{Next}
-use Rattle.up_strand.specs.declared.read_packet.Next.TheVariants.{Packet, Last, End, Fault, TooLong, NoMemory}
+use Rattle.up_strand.specs.declared.source_packet.Next.{Next}
+use Rattle.up_strand.specs.declared.source_packet.Next.TheVariants.{Packet, Last, End, Fault, TooLong, NoMemory}
 
 -- these bytes were read, so many, and the entry is the same
 pub record Took (old new : SourceState) (bytes : List ℕ) (count : ℕ) : Type 0 where

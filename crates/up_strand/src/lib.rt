@@ -6,18 +6,18 @@ mod ending;
 mod fill;
 mod giving;
 mod node;
-mod read_packet;
 mod reached;
 mod sink_packet;
+mod source_packet;
 mod sweep;
 
 pub use any_module::AnyModule;
 pub use ending::{break_all, end_all, fall};
 pub use giving::{give, pass_on};
 pub use node::{Node, Part, Takers};
-pub use read_packet::{Next, read_packet};
 pub use reached::nodes_come_to_the_meaning;
 pub use sink_packet::write_packet;
+pub use source_packet::{Next, read_packet};
 pub use sweep::{feed_head, settle};
 
 #[cfg(test)]

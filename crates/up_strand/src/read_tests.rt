@@ -1,6 +1,6 @@
 ghost use Rattle.std.specs.Prelude.{◌<◌};
 
-use crate::read_packet::{Next, read_packet};
+use crate::source_packet::{Next, read_packet};
 use std::alloc::Global;
 use std::process::Abort;
 use std::test::Fail;

@@ -1,7 +1,7 @@
 use Rattle.std.proofs.Common.{rules, ◌≡◌, ◌+◌, ◌≤◌, length, take, ap, arith}
 use Rattle.up_strand.proofs.ReadPackets.{read_as}
 use Rattle.up_strand.specs.Reads.{is_fault}
-use Rattle.up_strand.proofs.read_packet.read_packet.Goals as goal
+use Rattle.up_strand.proofs.source_packet.read_packet.Goals as goal
 
 pub returns-in-Fault-clause-reads : goal.returns-in-Fault-clause-reads
 returns-in-Fault-clause-reads g c =
