@@ -1,6 +1,7 @@
 -- The nodes of a strand as pipes of a graph, and what they are to have taken and put out.
 use Rattle.std.specs.Prelude.{◌≡◌, ℕ, ◌<◌, List, length, slice_get, slice_index_or, Bool, true, false, Option, Some, None, if◌then◌else◌}
 use Rattle.std.specs.Io.KnownBytes.{Appends}
+use Rattle.up_base.specs.Lists.{IsPrefix}
 use Rattle.up_model.specs.Ends.{is_source}
 use Rattle.up_model.specs.Kinds.{module_kind}
 use Rattle.up_model.specs.Meaning.{Doing, selected, flow_by, pipe_work, input_by, bytes_by}
@@ -48,6 +49,13 @@ module _ (does : Doing) (pipes : List Pipe) (given : ℕ → Flow) where
       → (slice_index_or nodes i d).input ≡ None → slice_get pipes (places i) ≡ Some pipe
       → past.fed i ≡ flow_into (places i) pipe
 
+  -- or it was fed the first packets of that
+  abbrev pub IsHeadFedInPart : {P K : Type 0} → (ℕ → ℕ) → List (Node P K) → Past → Type 0
+  IsHeadFedInPart {P} {K} places nodes past =
+      (i : ℕ) (d : Node P K) (pipe : Pipe) → i < length nodes
+      → (slice_index_or nodes i d).input ≡ None → slice_get pipes (places i) ≡ Some pipe
+      → IsPrefix (past.fed i) (flow_into (places i) pipe)
+
   module _ {P K : Type 0} (state : K → SinkState) (places : ℕ → ℕ) where
     -- the nodes put out and counted what the graph says, each outlet was given what its input put out, and each sink that works
     -- was given its bytes
@@ -65,3 +73,18 @@ module _ (does : Doing) (pipes : List Pipe) (given : ℕ → Flow) where
           → (slice_index_or nodes i d).part ≡ Sink sink false
           → slice_get pipes (places i) ≡ Some pipe
           → Appends (past.seats i).start.written (state sink).written (bytes_by does pipes given pipe)
+
+    -- what has left each node is a prefix of what the graph says, each outlet was given a prefix of what its input is to put out,
+    -- and each sink, also one that failed or at which memory ran out, a prefix of its bytes
+    pub record IsReachedInPart (nodes : List (Node P K)) (past : Past) : Type 0 where
+      pub put : (i : ℕ) (d : Node P K) → i < length nodes
+          → is_outlet (slice_index_or nodes i d).part ≡ false
+          → IsPrefix (past.gone i) (flow_by does pipes given (places i))
+      pub outlets : (i k : ℕ) (d : Node P K) → i < length nodes
+          → takes_from (slice_index_or nodes i d).input k ≡ true
+          → IsPrefix (past.fed i) (flow_by does pipes given (places k))
+      pub sinks : (i : ℕ) (d : Node P K) (sink : K) (failed : Bool) (pipe : Pipe) → i < length nodes
+          → (slice_index_or nodes i d).part ≡ Sink sink failed
+          → slice_get pipes (places i) ≡ Some pipe
+          → (put : List ℕ) × Appends (past.seats i).start.written (state sink).written put
+          × IsPrefix put (bytes_by does pipes given pipe)

@@ -4,8 +4,8 @@ ghost use Rattle.up_model.specs.Meaning.{so_far, wholly};
 ghost use Rattle.up_model.specs.Packet.{Flow};
 ghost use Rattle.up_model.specs.WellFormed.{IsWellFormed};
 ghost use Rattle.up_model.specs.declared.pipe.Pipe.{Pipe as ThePipe};
-ghost use Rattle.up_strand.specs.OfGraph.{AreNodesOf, IsHeadFed, IsReached};
-ghost use Rattle.up_strand.specs.Stand.{Past, Stand, AreSound, AreDone, AreSettled};
+ghost use Rattle.up_strand.specs.OfGraph.{AreNodesOf, IsHeadFed, IsHeadFedInPart, IsReached, IsReachedInPart};
+ghost use Rattle.up_strand.specs.Stand.{Past, Stand, AreSound, AreTaking, AreDone, AreSettled};
 ghost use Rattle.up_strand.specs.Tree.{HasTree};
 ghost use Rattle.up_strand.specs.declared.node.Node.{Node as TheNode};
 
@@ -25,4 +25,14 @@ pub fn nodes_come_to_the_meaning<P: LocalPacket, K: Sink>()
         → Stand P.plain K.state nodes past → AreNodesOf pipes places nodes past
         → AreSettled nodes → AreDone nodes → IsHeadFed wholly pipes given places nodes past
         → IsReached wholly pipes given K.state places nodes past }
+{}
+
+/// Whatever became of memory while the flows went on, what the nodes put out and wrote comes first of what the graph says
+/// of what their head was fed.
+pub fn nodes_come_to_a_first_part<P: LocalPacket, K: Sink>()
+    ensures { (pipes : List ThePipe) (places : ℕ → ℕ) (given : ℕ → Flow)
+        (nodes : List (TheNode P K)) (past : Past) → IsWellFormed pipes → HasTree nodes
+        → Stand P.plain K.state nodes past → AreNodesOf pipes places nodes past
+        → AreTaking nodes → IsHeadFedInPart so_far pipes given places nodes past
+        → IsReachedInPart so_far pipes given K.state places nodes past }
 {}

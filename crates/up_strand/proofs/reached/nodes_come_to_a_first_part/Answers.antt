@@ -1,0 +1,9 @@
+use Rattle.std.proofs.lemmas.Option.{slice_get_within}
+use Rattle.up_model.proofs.WellFormed.{has_source}
+use Rattle.up_strand.proofs.Reaching.{reached_in_part}
+use Rattle.up_strand.proofs.reached.nodes_come_to_a_first_part.Goals as goal
+
+pub returns : goal.returns
+returns g c pipes places given nodes past well tree stand of taking head =
+    reached_in_part g.P.LocalPacket.plain g.K.Sink.state pipes places given nodes past tree.0 tree.1 stand of taking head
+    (λ place pipe is. has_source pipes well place (slice_get_within pipes place pipe is))
