@@ -4,5 +4,6 @@ pub mod Lists
 pub mod NodeSteps
 pub mod Passing
 pub mod Reaching
+pub mod SevenNodes
 pub mod Sweeping
 pub mod Writes

@@ -175,7 +175,7 @@ module _ {P K : Type 0} (plain : P → PlainPacket) (state : K → SinkState) (n
               let before : takes_from (get_or nodes i d).input k ≡ true = rw (← (placed_set i d inner).input) takes in
               elim (eqb_tells i place) [
                 | inl is ↦ absurd (let wrong : true ≡ false =
-                sym before ∙ ap (λ n. takes_from (get_or nodes n d).input k) is.1 ∙ ap (λ (n : Node P K). takes_from n.input k) (get_or_default nodes place d e within) ∙ free k in cc)
+                    sym before ∙ ap (λ n. takes_from (get_or nodes n d).input k) is.1 ∙ ap (λ (n : Node P K). takes_from n.input k) (get_or_default nodes place d e within) ∙ free k in cc)
                 | inr differs ↦ other i differs.1 ∙ stood.edge i d k inner before
               ];
         };

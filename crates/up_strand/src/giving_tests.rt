@@ -83,7 +83,13 @@ fn assert_node(
 }
 
 /// Gives the packet where so many second ones can be made.
-fn give_to_four(rt: &impl Abort, alloc: Global, depot: &mut MemDepot, dups: usize, wanted: &Wanted) {
+fn give_to_four(
+    rt: &impl Abort,
+    alloc: Global,
+    depot: &mut MemDepot,
+    dups: usize,
+    wanted: &Wanted,
+) {
     let s = &mut TrialStore::new(alloc, dups);
     let one = depot.open_sink("one").expect(rt, "no sink");
     let two = depot.open_sink("two").expect(rt, "no sink");

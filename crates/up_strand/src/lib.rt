@@ -18,6 +18,8 @@ pub use sink_packet::write_packet;
 pub use sweep::{feed_head, settle};
 
 #[cfg(test)]
-mod write_tests;
-#[cfg(test)]
 mod giving_tests;
+#[cfg(test)]
+mod sweep_tests;
+#[cfg(test)]
+mod write_tests;

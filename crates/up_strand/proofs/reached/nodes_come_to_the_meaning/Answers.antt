@@ -16,6 +16,6 @@ returns-clause-whole g c pipes places given nodes past well tree stand of settle
     reached g.P.LocalPacket.plain g.K.Sink.state true pipes places given nodes past tree.0 tree.1 stand of settled
     (λ i d within. (done i d within).long)
     (λ i d within inner.
-        let is = done i d within in
-        whole_as_done g.P.LocalPacket.plain g.K.Sink.state (past.seats i) _ _ (past.fed i) inner is.ended is.whole (stand.node i d within).part)
+    let is = done i d within in
+    whole_as_done g.P.LocalPacket.plain g.K.Sink.state (past.seats i) _ _ (past.fed i) inner is.ended is.whole (stand.node i d within).part)
     head (λ place pipe is. has_source pipes well place (slice_get_within pipes place pipe is))
