@@ -6,5 +6,6 @@ pub mod Passing
 pub mod Reaching
 pub mod ReadPackets
 pub mod Rooms
+pub mod SevenNodes
 pub mod Sweeping
 pub mod Writes

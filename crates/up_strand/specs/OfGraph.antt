@@ -3,6 +3,7 @@ use Rattle.std.specs.Prelude.{◌≡◌, ℕ, ◌<◌, List, length, slice_get, 
 use Rattle.std.specs.Io.KnownBytes.{Appends}
 use Rattle.std.specs.Option.{IsSome}
 use Rattle.up_model.specs.Inputs.{reached}
+use Rattle.up_base.specs.Lists.{IsPrefix}
 use Rattle.up_model.specs.Kinds.{module_kind}
 use Rattle.up_model.specs.Meaning.{Doing, Feeding, is_fed_by, selected, flow_by, pipe_work, input_by, bytes_by}
 use Rattle.up_model.specs.Packet.{Flow}
@@ -38,8 +39,10 @@ module _ (pipes : List Pipe) (places : ℕ → ℕ) where
         → is_outlet (slice_index_or nodes k d).part ≡ false
 
 module _ (does : Doing) (pipes : List Pipe) (given : Feeding) where
-  -- something is fed to a pipe from which each node's is reached, to no pipe behind the head, and the head took what its pipe takes
-  pub record AreFed {P K : Type 0} (places : ℕ → ℕ) (nodes : List (Node P K)) (past : Past) : Type 0 where
+  -- something is fed from which each node's pipe is reached, nothing to a pipe behind the head, and what the head took is so told
+  -- by what its pipe takes
+  pub record AreFedAs {P K : Type 0} (IsTold : Flow → Flow → Type 0) (places : ℕ → ℕ)
+      (nodes : List (Node P K)) (past : Past) : Type 0 where
     pub reaches : (i : ℕ) (d : Node P K) → i < length nodes
         → is_outlet (slice_index_or nodes i d).part ≡ false
         → IsSome (reached (is_fed_by given) pipes (places i))
@@ -48,7 +51,14 @@ module _ (does : Doing) (pipes : List Pipe) (given : Feeding) where
         → takes_from (slice_index_or nodes i d).input k ≡ true → given (places i) ≡ None
     pub head : (i : ℕ) (d : Node P K) (pipe : Pipe) → i < length nodes
         → (slice_index_or nodes i d).input ≡ None → slice_get pipes (places i) ≡ Some pipe
-        → past.fed i ≡ input_by does pipes given (places i) pipe
+        → IsTold (past.fed i) (input_by does pipes given (places i) pipe)
+
+  -- the head took all that its pipe takes, or the first packets of it
+  abbrev pub AreFed : {P K : Type 0} → (ℕ → ℕ) → List (Node P K) → Past → Type 0
+  AreFed places nodes past = AreFedAs (λ took takes. took ≡ takes) places nodes past
+
+  abbrev pub AreFedInPart : {P K : Type 0} → (ℕ → ℕ) → List (Node P K) → Past → Type 0
+  AreFedInPart places nodes past = AreFedAs IsPrefix places nodes past
 
   module _ {P K : Type 0} (state : K → SinkState) (places : ℕ → ℕ) where
     -- the nodes put out and counted what the graph says, each outlet was given what its input put out, and each sink that works
@@ -67,3 +77,18 @@ module _ (does : Doing) (pipes : List Pipe) (given : Feeding) where
           → (slice_index_or nodes i d).part ≡ Sink sink false
           → slice_get pipes (places i) ≡ Some pipe
           → Appends (past.seats i).start.written (state sink).written (bytes_by does pipes given (places i) pipe)
+
+    -- what has left each node is a prefix of what the graph says, each outlet was given a prefix of what its input is to put out,
+    -- and each sink, also one that failed or at which memory ran out, a prefix of its bytes
+    pub record IsReachedInPart (nodes : List (Node P K)) (past : Past) : Type 0 where
+      pub put : (i : ℕ) (d : Node P K) → i < length nodes
+          → is_outlet (slice_index_or nodes i d).part ≡ false
+          → IsPrefix (past.gone i) (flow_by does pipes given (places i))
+      pub outlets : (i k : ℕ) (d : Node P K) → i < length nodes
+          → takes_from (slice_index_or nodes i d).input k ≡ true
+          → IsPrefix (past.fed i) (flow_by does pipes given (places k))
+      pub sinks : (i : ℕ) (d : Node P K) (sink : K) (failed : Bool) (pipe : Pipe) → i < length nodes
+          → (slice_index_or nodes i d).part ≡ Sink sink failed
+          → slice_get pipes (places i) ≡ Some pipe
+          → (put : List ℕ) × Appends (past.seats i).start.written (state sink).written put
+          × IsPrefix put (bytes_by does pipes given (places i) pipe)

@@ -15,7 +15,7 @@ pub use any_module::AnyModule;
 pub use ending::{break_all, end_all, fall};
 pub use giving::{give, pass_on};
 pub use node::{Node, Part, Takers};
-pub use reached::nodes_come_to_the_meaning;
+pub use reached::{nodes_come_to_a_first_part, nodes_come_to_the_meaning};
 pub use sink_packet::write_packet;
 pub use source_packet::{Next, read_packet};
 pub use sweep::{feed_head, settle};
@@ -24,5 +24,7 @@ pub use sweep::{feed_head, settle};
 mod giving_tests;
 #[cfg(test)]
 mod read_tests;
+#[cfg(test)]
+mod sweep_tests;
 #[cfg(test)]
 mod write_tests;

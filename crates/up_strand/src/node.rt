@@ -1,15 +1,17 @@
 // The nodes of a strand: its head, and the pipes, sinks and outlets that take what others put out.
-ghost use Rattle.std.specs.Prelude.{◌≡◌, ◌++◌, All, [], ◌∷◌, not, ◌&&◌, true, false, ℕ, List, is_ok, OnOk, OnErr};
+ghost use Rattle.std.specs.Prelude.{◌≡◌, ◌++◌, All, [], ◌∷◌, not, ◌&&◌, true, false, ℕ, List, is_ok, IfSome, OnOk};
+ghost use Rattle.up_model.specs.Kinds.{IsWithinBounds};
 ghost use Rattle.up_model.specs.Packet.{IsLegal};
 ghost use Rattle.up_outside.specs.Counts.{CountsWhere};
 ghost use Rattle.up_outside.specs.States.{SinkState};
 ghost use Rattle.up_shape.specs.Stores.{Stays};
-ghost use Rattle.up_strand.specs.Nodes.{IsTaking, IsSound, IsDone, IsAsPlaced, NodeFits, Took, has_ended, is_outlet, is_pipe, is_whole, takes_from};
+ghost use Rattle.up_strand.specs.Nodes.{Seat, PartStands, NodeStands, IsTaking, IsSound, IsDone, IsAsPlaced, NodeFits, Took, has_ended, is_outlet, is_pipe, is_whole, takes_from};
 ghost use Rattle.up_strand.specs.Stand.{IsSettled};
 ghost use Rattle.up_strand.specs.Writing.{Receives};
 
 use crate::any_module::AnyModule;
 use crate::sink_packet::write_packet;
+use std::alloc::Global;
 use std::mem;
 use up_base::{NoMemory, Refusal};
 use up_model::Tally;
@@ -49,6 +51,34 @@ pub struct Node<P, K> {
 }
 
 impl<P: LocalPacket, K: Sink> Node<P, K> {
+    /// A node that took nothing.
+    pub fn new(
+        alloc: Global,
+        input: Option<usize>,
+        takers: Option<Takers>,
+        part: Part<K>,
+    ) -> Node<P, K>
+        ensures made { result ≡ record {
+          input = input;
+          takers = takers;
+          part = part;
+          out = result.out;
+          short = false;
+        } }
+        ensures empty { result.out.packets ≡ [] }
+        ensures stands { (seat : Seat) → IfSome seat.kind IsWithinBounds
+            → PartStands P.plain K.state seat false part []
+            → NodeStands P.plain K.state seat result [] [] }
+    {
+        Node {
+            input,
+            takers,
+            part,
+            out: Outbox::new(alloc),
+            short: false,
+        }
+    }
+
     /// Takes the next packet. After `NoMemory` it is short.
     pub fn take(&mut self, p: P, s: &mut P::Store) -> Result<(), NoMemory>
         requires taking { IsTaking self.old }
