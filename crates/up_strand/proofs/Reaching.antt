@@ -1,5 +1,5 @@
 -- What the nodes of a strand took and put out is what the graph says, by induction on their ranks.
-use Rattle.std.proofs.Common.{◌≡◌, ℕ, zero, suc, ◌+◌, ◌<◌, ◌≤◌, List, [], ◌++◌, length, map, get_or, Bool, true, false, not, Option, Some, None, slice_get, refl, sym, ap, ◌∙◌, subst, append-nil, append_assoc, arith, inl, inr, if◌then◌else◌}
+use Rattle.std.proofs.Common.{◌≡◌, ℕ, zero, suc, ◌+◌, ◌<◌, List, [], ◌++◌, length, map, get_or, Bool, true, false, Option, Some, None, slice_get, refl, sym, ap, ◌∙◌, subst, append-nil, append_assoc, arith, inl, inr, if◌then◌else◌}
 use Rattle.std.specs.Prelude.{MatchOption}
 use Rattle.std.specs.Io.KnownBytes.{Appends}
 use Rattle.std.specs.Option.{IsSome}
@@ -23,10 +23,10 @@ use Rattle.up_model.specs.declared.pipe.Pipe.{Pipe}
 use Rattle.up_model.specs.declared.plain_packet.PlainPacket.{PlainPacket}
 use Rattle.up_outside.specs.States.{SinkState}
 use Rattle.up_strand.proofs.NodeSteps.{head_work, sink_work}
-use Rattle.up_strand.specs.Nodes.{Seat, PartStands, NodeStands, IsSound, IsDone, node_work, is_outlet, is_whole, has_ended, is_pipe, takes_from}
-use Rattle.up_strand.specs.OfGraph.{IsInputOf, IsNodeOf, AreNodesOf, IsHeadFed, IsHeadFedInPart, IsReached, IsReachedInPart, flow_into}
+use Rattle.up_strand.specs.Nodes.{Seat, PartStands, node_work, is_outlet, is_whole, has_ended, is_pipe, takes_from}
+use Rattle.up_strand.specs.OfGraph.{IsInputOf, AreNodesOf, IsHeadFed, IsHeadFedInPart, IsReached, IsReachedInPart, flow_into}
 use Rattle.up_strand.specs.Stand.{Past, Stand, AreTaking, AreSettled}
-use Rattle.up_strand.specs.Tree.{IsTree, HasTree}
+use Rattle.up_strand.specs.Tree.{IsTree}
 use Rattle.up_strand.specs.declared.node.Node.{Node}
 use Rattle.up_strand.specs.declared.node.Part.{Part}
 use Rattle.up_strand.specs.declared.node.Part.TheVariants.{Head, Pipe as PipePart, Sink, Outlet, Ended}

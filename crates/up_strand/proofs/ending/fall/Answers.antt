@@ -1,5 +1,4 @@
-use Rattle.std.proofs.Common.{◌≡◌, ◌<◌, [], true, refl, length, arith}
-use Rattle.std.proofs.lemmas.List.{length-set}
+use Rattle.std.proofs.Common.{◌≡◌, ◌<◌, [], true, length, arith}
 use Rattle.up_shape.proofs.StoreSteps.{Stays-refl, Stays-trans}
 use Rattle.up_strand.proofs.Gives.{placed_itself, placed_on}
 use Rattle.up_strand.proofs.Lists.{all_set, done_next, pairs_on}

@@ -1,4 +1,4 @@
-use Rattle.std.proofs.Common.{◌≡◌, true, false, refl}
+use Rattle.std.proofs.Common.{true, false, refl}
 use Rattle.std.proofs.lemmas.Option.{slice_get_within}
 use Rattle.up_model.proofs.WellFormed.{has_source}
 use Rattle.up_strand.proofs.Reaching.{reached, whole_as_sound, whole_as_done}
