@@ -58,6 +58,12 @@ pub record IsDone {P K : Type 0} (node : Node P K) : Type 0 where
   pub ended : is_pipe node.part ≡ false
   pub whole : has_ended node.part ≡ is_whole node.part
 
+-- memory ran out at it, and what it holds is given up, but for what is left for another strand
+pub record HasGivenUp {P K : Type 0} (old new : Node P K) : Type 0 where
+  pub short : new.short ≡ true
+  pub kept : is_outlet old.part ≡ true → new.out ≡ old.out
+  pub settled : is_outlet old.part ≡ false → new.out.packets ≡ []
+
 -- it has the same input and takers, and is an outlet or not as it was
 pub record IsAsPlaced {P K : Type 0} (old new : Node P K) : Type 0 where
   pub input : new.input ≡ old.input
