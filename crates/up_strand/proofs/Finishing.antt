@@ -1,5 +1,5 @@
 -- Nodes whose flows come to their whole end one after another.
-use Rattle.std.proofs.Common.{◌≡◌, ◌≢◌, ℕ, ◌+◌, ◌<◌, ◌≤◌, List, [], length, set, get_or, Bool, true, false, refl, sym, ap, ◌∙◌, subst, arith, inl, inr, ◌⊎◌}
+use Rattle.std.proofs.Common.{◌≡◌, ◌≢◌, ℕ, ◌+◌, ◌<◌, List, [], length, set, get_or, Bool, true, false, refl, sym, ap, ◌∙◌, subst, arith, inl, inr, ◌⊎◌}
 use Rattle.std.proofs.lemmas.Bool.{cases_lt}
 use Rattle.std.proofs.lemmas.Bool.Decides.{eqb_tells}
 use Rattle.std.proofs.lemmas.List.{get_or-set_same, get_or-set_other, get_or_default, length-set}
@@ -10,8 +10,8 @@ use Rattle.up_strand.proofs.Lists.{all_set, pairs_on}
 use Rattle.up_strand.proofs.Passing.{stand_on, placed_passed, never_itself}
 use Rattle.up_strand.proofs.Sweeping.{placed_set, stand_stepped, swept_untaken}
 use Rattle.up_strand.specs.Gifts.{AreReady}
-use Rattle.up_strand.specs.Nodes.{IsTaking, IsSound, IsDone, IsAsPlaced, Took, takes_from, has_ended, is_whole}
-use Rattle.up_strand.specs.Stand.{Passes, Ends, IsBeside, IsSettled, IsSettledAt, AreSound}
+use Rattle.up_strand.specs.Nodes.{IsTaking, IsSound, IsDone, IsAsPlaced, Took, takes_from}
+use Rattle.up_strand.specs.Stand.{Passes, Ends, IsBeside}
 use Rattle.up_strand.specs.Tree.{IsSwept, HasTree}
 use Rattle.up_strand.specs.declared.node.Node.{Node}
 

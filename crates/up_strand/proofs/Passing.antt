@@ -16,9 +16,9 @@ use Rattle.up_outside.specs.States.{SinkState}
 use Rattle.up_shape.specs.Outgoing.{Outgoing}
 use Rattle.up_strand.proofs.Gives.{share_none, share_all, placed_itself, placed_on}
 use Rattle.up_strand.specs.Gifts.{Given, Gave, AreReady, share}
-use Rattle.up_strand.specs.Nodes.{IsTaking, IsAsPlaced, NodeStands, Seat, node_work, is_outlet, takes_from}
-use Rattle.up_strand.specs.Stand.{Past, Stand, StandForSome, StandWith, Went, IsBeside, Passes, AreAsPlaced}
-use Rattle.up_strand.specs.Tree.{AreTakers, AreBetween, HasTree}
+use Rattle.up_strand.specs.Nodes.{IsAsPlaced, NodeStands, Seat, node_work, is_outlet, takes_from}
+use Rattle.up_strand.specs.Stand.{Past, Stand, StandWith, Passes, AreAsPlaced}
+use Rattle.up_strand.specs.Tree.{AreTakers, HasTree}
 use Rattle.up_strand.specs.Waiting.{waiting_at}
 use Rattle.up_strand.specs.declared.node.Node.{Node}
 use Rattle.up_strand.specs.declared.node.Takers.{Takers}

@@ -1,6 +1,6 @@
 -- A tree of seven nodes, which don't stand in the order of their depth: a head, a `dup`, two sinks, a `skip` before a third, and an
 -- outlet.
-use Rattle.std.proofs.Common.{◌≡◌, ℕ, zero, suc, ◌+◌, ◌<◌, ◌≤◌, List, [], ◌∷◌, length, get_or, true, false, Option, Some, None, refl, sym, ap, ◌∙◌, subst, arith, inl, inr}
+use Rattle.std.proofs.Common.{◌≡◌, ℕ, zero, suc, ◌+◌, ◌<◌, ◌≤◌, List, [], ◌∷◌, get_or, true, false, Option, Some, None, refl, sym, ap, ◌∙◌, subst, arith, inl, inr}
 use Rattle.std.specs.Prelude.{IfSome}
 use Rattle.std.specs.Str.{is_utf8, chars}
 use Rattle.std.proofs.lemmas.Bool.Decides.{eqb_tells}
@@ -16,7 +16,6 @@ use Rattle.up_strand.specs.Stand.{StandForSome}
 use Rattle.up_strand.specs.Tree.{AreTakers, IsTree, IsOrder, IsSwept}
 use Rattle.up_strand.specs.declared.node.Node.{Node}
 use Rattle.up_strand.specs.declared.node.Part.TheVariants.{Head, Sink}
-use Rattle.up_strand.specs.declared.node.Takers.{Takers}
 
 -- a node takes from its input alone
 taken : (input : Option ℕ) (k : ℕ) (R : ℕ → Type 0) → input ≡ Some k → R k → (place : ℕ) → takes_from input place ≡ true → R place

@@ -1,5 +1,5 @@
 -- The nodes of a strand that are swept in their order.
-use Rattle.std.proofs.Common.{◌≡◌, ◌≢◌, ℕ, ◌+◌, ◌<◌, ◌≤◌, List, [], ◌∷◌, ◌++◌, length, set, get_or, Bool, true, false, Option, Some, None, refl, sym, ap, ◌∙◌, subst, append-nil, arith, inl, inr}
+use Rattle.std.proofs.Common.{◌≡◌, ◌≢◌, ℕ, ◌+◌, ◌<◌, ◌≤◌, List, [], ◌++◌, length, set, get_or, Bool, true, false, Option, Some, None, refl, sym, ap, ◌∙◌, subst, append-nil, arith, inl, inr}
 use Rattle.std.proofs.lemmas.Bool.{cases_lt}
 use Rattle.std.proofs.lemmas.Bool.Decides.{eqb_tells}
 use Rattle.std.proofs.lemmas.List.{get_or-set_same, get_or-set_other, get_or_default, length-set}
@@ -10,9 +10,9 @@ use Rattle.up_strand.proofs.Gives.{placed_itself}
 use Rattle.up_strand.proofs.Lists.{pairs_set}
 use Rattle.up_strand.proofs.Passing.{untaken, with_flow, with_flow-same, with_flow-other, takers_same}
 use Rattle.up_strand.specs.Gifts.{AreReady}
-use Rattle.up_strand.specs.Nodes.{IsTaking, IsSound, IsAsPlaced, NodeStands, Took, is_outlet, takes_from}
-use Rattle.up_strand.specs.Stand.{Past, Stand, StandWith, Passes, AreAsPlaced, AreTaking, AreSound, IsSettled, IsSettledAt}
-use Rattle.up_strand.specs.Tree.{IsTree, IsOrder, IsSwept, HasTree}
+use Rattle.up_strand.specs.Nodes.{IsTaking, IsSound, IsAsPlaced, NodeStands, Took, takes_from}
+use Rattle.up_strand.specs.Stand.{StandWith, Passes, AreAsPlaced, AreTaking, AreSound, IsSettled, IsSettledAt}
+use Rattle.up_strand.specs.Tree.{IsTree, IsSwept}
 use Rattle.up_strand.specs.declared.node.Node.{Node}
 
 -- it takes from itself, if from anybody

@@ -12,7 +12,8 @@ abbrev pub share : Option ℕ → ℕ → Flow → Flow
 share input place flow = if takes_from input place then flow else []
 
 module _ {P K : Type 0} (plain : P → PlainPacket) (state : K → SinkState) (well : Bool) where
-  -- the node took these packets more, is the same where they are none, and goes on as it was where all went well
+  -- the node took these packets more, is the same where they are none, and goes on as it was where
+  -- all went well
   pub record Given (old new : Node P K) (more : Flow) : Type 0 where
     pub took : Took plain state old new more
     pub still : more ≡ [] → new ≡ old
@@ -22,7 +23,8 @@ module _ {P K : Type 0} (plain : P → PlainPacket) (state : K → SinkState) (w
 
   -- each node took its share of the flow
   abbrev pub Gave : ℕ → Flow → List (Node P K) → List (Node P K) → Type 0
-  Gave place flow olds news = Pairwise (λ old new. Given old new (share old.input place flow)) olds news
+  Gave place flow olds news =
+      Pairwise (λ old new. Given old new (share old.input place flow)) olds news
 
 -- the nodes that take from the place can be given packets
 abbrev pub AreReady : {P K : Type 0} → ℕ → List (Node P K) → Type 0

@@ -1,5 +1,5 @@
 -- What a node of a strand stands for: the flow that it took, and the flow that has left it.
-use Rattle.std.specs.Prelude.{◌≡◌, ◌==◌, ℕ, List, [], ◌++◌, map, All, Bool, true, false, not, ◌&&◌, Option, Some, None, IfSome, MatchOption}
+use Rattle.std.specs.Prelude.{◌≡◌, ◌==◌, ℕ, [], ◌++◌, map, All, Bool, true, false, not, ◌&&◌, Option, Some, None, IfSome, MatchOption}
 use Rattle.up_model.specs.Chain.{IsRawSink}
 use Rattle.up_model.specs.Ends.{is_source}
 use Rattle.up_model.specs.Kinds.{IsWithinBounds}
@@ -58,36 +58,47 @@ pub record IsDone {P K : Type 0} (node : Node P K) : Type 0 where
   pub ended : is_pipe node.part ≡ false
   pub whole : has_ended node.part ≡ is_whole node.part
 
+-- memory ran out at it, and what it holds is given up, but for what is left for another strand
+pub record HasGivenUp {P K : Type 0} (old new : Node P K) : Type 0 where
+  pub short : new.short ≡ true
+  pub kept : is_outlet old.part ≡ true → new.out ≡ old.out
+  pub settled : is_outlet old.part ≡ false → new.out.packets ≡ []
+
 -- it has the same input and takers, and is an outlet or not as it was
 pub record IsAsPlaced {P K : Type 0} (old new : Node P K) : Type 0 where
   pub input : new.input ≡ old.input
   pub takers : new.takers ≡ old.takers
   pub outlet : is_outlet new.part ≡ is_outlet old.part
 
--- what is fixed of a node when its strand begins: the kind of its pipe, and the state of its sink, if it is one. An outlet is no
--- pipe and has no kind.
+-- what is fixed of a node when its strand begins: the kind of its pipe, and the state of its sink,
+-- if it is one. An outlet is no pipe and has no kind.
 pub record Seat : Type 0 where
   pub kind : Option Kind
   pub start : SinkState
 
--- the work of a node that took this flow, wholly or so far. A source puts out what it is given, an outlet what it takes.
+-- the work of a node that took this flow, wholly or so far. A source puts out what it is given, an
+-- outlet what it takes.
 abbrev pub node_work : Bool → Option Kind → Flow → Work
 node_work whole None fed = record { flow = fed; tally = nothing }
 node_work false (Some kind) fed = done_by so_far 0 kind fed
 node_work true (Some kind) fed = done_by wholly 0 kind fed
 
--- of this work, what hasn't left waits in the outbox, but for what is lacking where memory ran out; else the outbox has counted it
-pub record Holds {P : Type 0} (plain : P → PlainPacket) (short : Bool) (work : Work) (out : Outgoing P) (gone : Flow) : Type 0 where
+-- of this work, what hasn't left waits in the outbox, but for what is lacking where memory ran out;
+-- else the outbox has counted it
+pub record Holds {P : Type 0} (plain : P → PlainPacket) (short : Bool) (work : Work)
+    (out : Outgoing P) (gone : Flow) : Type 0 where
   pub lacking : Flow
   pub flow : work.flow ≡ gone ++ map plain out.packets ++ lacking
   pub all : short ≡ false → lacking ≡ []
   pub tally : short ≡ false → out.tally ≡ stopped work.tally
 
 module _ {P K : Type 0} (plain : P → PlainPacket) (state : K → SinkState) where
-  -- a part is of the kind of its seat and took this flow; a sink that failed, or at which memory ran out, was given a prefix of its bytes
+  -- a part is of the kind of its seat and took this flow; a sink that failed, or at which memory
+  -- ran out, was given a prefix of its bytes
   abbrev pub PartStands : Seat → Bool → Part K → Flow → Type 0
   PartStands seat short Head fed = MatchOption seat.kind ⊥ (λ kind. is_source kind ≡ true)
-  PartStands seat short (Pipe m) fed = (seat.kind ≡ Some (any_kind m)) × (short ≡ false → AnyStands m fed)
+  PartStands seat short (Pipe m) fed =
+      (seat.kind ≡ Some (any_kind m)) × (short ≡ false → AnyStands m fed)
   PartStands seat short (Sink sink failed) fed =
       MatchOption seat.kind ⊥ IsRawSink
       × Receives seat.start (state sink) (not short && not failed) (joined fed)

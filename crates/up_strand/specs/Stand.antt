@@ -1,5 +1,5 @@
 -- What the nodes of a strand stand for together.
-use Rattle.std.specs.Prelude.{◌≡◌, ℕ, ◌<◌, List, [], ◌++◌, length, slice_index_or, true, false, Bool, Option, None, ◌≢◌, ◌⊎◌}
+use Rattle.std.specs.Prelude.{◌≡◌, ℕ, ◌<◌, List, [], ◌++◌, length, slice_index_or, true, false, Bool, None, ◌≢◌, ◌⊎◌}
 use Rattle.up_model.specs.Packet.{Flow}
 use Rattle.up_model.specs.declared.plain_packet.PlainPacket.{PlainPacket}
 use Rattle.up_outside.specs.States.{SinkState}
@@ -17,7 +17,8 @@ pub record Past : Type 0 where
 abbrev pub AreAsPlaced : {P K : Type 0} → List (Node P K) → List (Node P K) → Type 0
 AreAsPlaced olds news = Pairwise IsAsPlaced olds news
 
--- beside a node that gave on what waited there: what takes from it is placed as it was, and what doesn't is the same
+-- beside a node that gave on what waited there: what takes from it is placed as it was, and what
+-- doesn't is the same
 pub record IsBeside {P K : Type 0} (well : Bool) (place : ℕ) (old new : Node P K) : Type 0 where
   pub still : takes_from old.input place ≡ false → new ≡ old
   pub placed : IsAsPlaced old new
@@ -25,10 +26,12 @@ pub record IsBeside {P K : Type 0} (well : Bool) (place : ℕ) (old new : Node P
   pub sound : well ≡ true → IsSound old → IsSound new
 
 module _ {P K : Type 0} (plain : P → PlainPacket) (state : K → SinkState) where
-  -- each node stands for what it took and what has left it, and what has left a node is what each of its takers took
+  -- each node stands for what it took and what has left it, and what has left a node is what each
+  -- of its takers took
   pub record Stand (nodes : List (Node P K)) (past : Past) : Type 0 where
     pub node : (i : ℕ) (d : Node P K) → i < length nodes
-        → NodeStands plain state (past.seats i) (slice_index_or nodes i d) (past.fed i) (past.gone i)
+        → NodeStands plain state (past.seats i) (slice_index_or nodes i d)
+        (past.fed i) (past.gone i)
     pub edge : (i : ℕ) (d : Node P K) (k : ℕ) → i < length nodes
         → takes_from (slice_index_or nodes i d).input k ≡ true → past.fed i ≡ past.gone k
 
@@ -45,7 +48,8 @@ module _ {P K : Type 0} (plain : P → PlainPacket) (state : K → SinkState) wh
     pub outlet : (i : ℕ) (d : Node P K) → i < length olds
         → is_outlet (slice_index_or olds i d).part ≡ true → gone i ≡ past.gone i
 
-  -- whatever the one list of nodes stood for, the other stands for when the head took this flow more
+  -- whatever the one list of nodes stood for, the other stands for when the head took this flow
+  -- more
   abbrev pub StandWith : List (Node P K) → List (Node P K) → Flow → Type 0
   StandWith olds news more = (past : Past) → Stand olds past → Went olds news past more
 

@@ -19,7 +19,8 @@ TakesAt {P} {K} nodes i place =
     (d : Node P K) → takes_from (slice_index_or nodes i d).input place ≡ true
 
 -- the last of them takes from the place, and no node before the first or behind the last does
-pub record AreBetween {P K : Type 0} (place : ℕ) (nodes : List (Node P K)) (takers : Takers) : Type 0 where
+pub record AreBetween {P K : Type 0} (place : ℕ) (nodes : List (Node P K))
+    (takers : Takers) : Type 0 where
   pub rising : takers.first ≤ takers.last
   pub within : takers.last < length nodes
   pub last : TakesAt nodes takers.last place

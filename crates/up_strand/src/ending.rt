@@ -2,9 +2,9 @@
 ghost use Rattle.std.specs.Prelude.{◌≡◌, ◌<◌, [], true, false, is_ok, length, OnOk};
 ghost use Rattle.up_shape.specs.Stores.{Stays};
 ghost use Rattle.up_strand.specs.Gifts.{AreReady, NodesFit};
-ghost use Rattle.up_strand.specs.Nodes.{is_pipe, is_whole};
+ghost use Rattle.up_strand.specs.Nodes.{HasGivenUp, is_pipe, is_whole};
 ghost use Rattle.up_strand.specs.Stand.{StandForSome, StandWith, Ends, AreAsPlaced, AreTaking, AreSound, AreDone, AreSame, AreSettled, IsSettledAt};
-ghost use Rattle.up_strand.specs.Tree.{AllAt, IsSwept, HasTree};
+ghost use Rattle.up_strand.specs.Tree.{AllAt, Pairwise, IsSwept, HasTree};
 
 use crate::giving::pass_on;
 use crate::node::Node;
@@ -85,8 +85,7 @@ pub fn break_all<P: LocalPacket, K: Sink>(nodes: &mut [Node<P, K>], s: &mut P::S
 pub fn fall<P: LocalPacket, K: Sink>(nodes: &mut [Node<P, K>], s: &mut P::Store)
     requires family { NodesFit P.fits (P.Store.state s.old).family nodes.old }
     ensures stand { StandWith P.plain K.state nodes.old nodes.new [] }
-    ensures settled { AreSettled nodes.new }
-    ensures short { AllAt (λ node. node.short ≡ true) nodes.new }
+    ensures given_up { Pairwise HasGivenUp nodes.old nodes.new }
     ensures taking { AreTaking nodes.old → AreTaking nodes.new }
     ensures placed { AreAsPlaced nodes.old nodes.new }
     ensures family { NodesFit P.fits (P.Store.state s.old).family nodes.new }

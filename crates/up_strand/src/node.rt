@@ -1,12 +1,11 @@
 // The nodes of a strand: its head, and the pipes, sinks and outlets that take what others put out.
-ghost use Rattle.std.specs.Prelude.{◌≡◌, ◌++◌, All, [], ◌∷◌, not, ◌&&◌, true, false, ℕ, List, is_ok, IfSome, OnOk};
+ghost use Rattle.std.specs.Prelude.{◌≡◌, ◌++◌, All, [], ◌∷◌, not, ◌&&◌, true, false, ℕ, List, is_ok, IfSome, OnOk, OnErr};
 ghost use Rattle.up_model.specs.Kinds.{IsWithinBounds};
 ghost use Rattle.up_model.specs.Packet.{IsLegal};
 ghost use Rattle.up_outside.specs.Counts.{CountsWhere};
 ghost use Rattle.up_outside.specs.States.{SinkState};
 ghost use Rattle.up_shape.specs.Stores.{Stays};
-ghost use Rattle.up_strand.specs.Nodes.{Seat, PartStands, NodeStands, IsTaking, IsSound, IsDone, IsAsPlaced, NodeFits, Took, has_ended, is_outlet, is_pipe, is_whole, takes_from};
-ghost use Rattle.up_strand.specs.Stand.{IsSettled};
+ghost use Rattle.up_strand.specs.Nodes.{Seat, PartStands, NodeStands, IsTaking, IsSound, IsDone, HasGivenUp, IsAsPlaced, NodeFits, Took, has_ended, is_outlet, is_pipe, is_whole, takes_from};
 ghost use Rattle.up_strand.specs.Writing.{Receives};
 
 use crate::any_module::AnyModule;
@@ -88,6 +87,7 @@ impl<P: LocalPacket, K: Sink> Node<P, K> {
         ensures took { Took P.plain K.state self.old self.new (P.plain p ∷ []) }
         ensures taking { IsTaking self.new }
         ensures sound { OnOk result (IsSound self.old → IsSound self.new) }
+        ensures fell { OnErr result (self.new.short ≡ true) }
         ensures placed { IsAsPlaced self.old self.new }
         ensures family { NodeFits P.fits self.new (P.Store.state s.old).family }
         ensures store { Stays (P.Store.state s.old) (P.Store.state s.new) }
@@ -165,6 +165,7 @@ impl<P: LocalPacket, K: Sink> Node<P, K> {
         ensures took { Took P.plain K.state self.old self.new [] }
         ensures done { OnOk result (IsSound self.old → IsDone self.new) }
         ensures still { IsDone self.old → OnOk result (IsDone self.new) }
+        ensures fell { OnErr result (self.new.short ≡ true) }
         ensures placed { IsAsPlaced self.old self.new }
         ensures family { NodeFits P.fits self.new (P.Store.state s.old).family }
         ensures store { Stays (P.Store.state s.old) (P.Store.state s.new) }
@@ -239,8 +240,7 @@ impl<P: LocalPacket, K: Sink> Node<P, K> {
     pub fn abandon(&mut self, s: &mut P::Store)
         requires family { NodeFits P.fits self.old (P.Store.state s.old).family }
         ensures took { Took P.plain K.state self.old self.new [] }
-        ensures settled { IsSettled self.new }
-        ensures short { self.new.short ≡ true }
+        ensures given_up { HasGivenUp self.old self.new }
         ensures taking { IsTaking self.old → IsTaking self.new }
         ensures placed { IsAsPlaced self.old self.new }
         ensures family { NodeFits P.fits self.new (P.Store.state s.old).family }

@@ -4,7 +4,7 @@ ghost use Rattle.up_shape.specs.VecPackets.{plain_of};
 ghost use Rattle.up_strand.specs.Stand.{StandForSome, AreTaking};
 ghost use Rattle.up_strand.specs.Tree.{IsSwept};
 
-use crate::{AnyModule, Node, Part, Takers, end_all, feed_head};
+use crate::{AnyModule, Node, Part, Takers, break_all, end_all, fall, feed_head};
 use std::alloc::Global;
 use std::process::Abort;
 use up_model::{Kind, MAX_PACKET, Tally, packets_stay_legal};
@@ -37,11 +37,42 @@ fn feed(
 /// `skip`.
 const ORDER: [usize; 7] = [1, 3, 2, 4, 5, 6, 0];
 
+/// How the flow of a tree is ended.
+enum End {
+    Whole,
+    Broken,
+    NoMemory,
+}
+
+/// Ends the flow of the nodes, which are a tree; where memory runs out one packet more comes then.
+fn end_tree(
+    rt: &impl Abort,
+    nodes: &mut [Node<VecPacket, MemSink>],
+    order: &[usize],
+    end: &End,
+    s: &mut VecStore,
+)
+    requires some { 0 < length order.now }
+    requires swept { IsSwept order.now nodes.old }
+    requires taking { AreTaking nodes.old }
+    requires stand { StandForSome plain_of sink_state nodes.old }
+{
+    match end {
+        End::Whole => assert_eq!(rt; end_all(nodes, order, s), Ok(())),
+        End::Broken => break_all(nodes, s),
+        End::NoMemory => {
+            fall(nodes, s);
+            feed(rt, nodes, order, b"hij", s);
+        }
+    }
+}
+
 /// Feeds three packets to a tree whose nodes stand in another order, and ends its flow.
 fn run_tree(
     rt: &impl Abort,
     alloc: Global,
     depot: &mut MemDepot,
+    end: &End,
     s: &mut VecStore,
 ) -> [Node<VecPacket, MemSink>; 7] {
     let failed = false;
@@ -80,7 +111,7 @@ fn run_tree(
     feed(rt, &mut nodes, &ORDER, b"abc", s);
     feed(rt, &mut nodes, &ORDER, b"def", s);
     feed(rt, &mut nodes, &ORDER, b"g", s);
-    assert_eq!(rt; end_all(&mut nodes, &ORDER, s), Ok(()));
+    end_tree(rt, &mut nodes, &ORDER, end, s);
     nodes
 }
 
@@ -101,6 +132,7 @@ fn sums_of(
     node: Node<VecPacket, MemSink>,
     written: Option<&[u8]>,
     waits: &[&[u8]],
+    end: &End,
     s: &mut VecStore,
 ) -> Tally {
     let Node {
@@ -110,13 +142,13 @@ fn sums_of(
         out,
         short,
     } = node;
-    assert!(rt; !short);
+    assert_eq!(rt; short, matches!(end, End::NoMemory));
     let sums = out.tally();
     assert_left(rt, out, waits, s);
     match part {
         Part::Head => assert_eq!(rt; written, None),
         Part::Outlet => assert_eq!(rt; written, None),
-        Part::Ended { whole } => assert!(rt; whole),
+        Part::Ended { whole } => assert_eq!(rt; whole, matches!(end, End::Whole)),
         Part::Pipe(m) => {
             <AnyModule as Module<VecPacket>>::give_up(m, s);
             assert!(rt; written.is_some(), "a pipe goes on");
@@ -140,30 +172,34 @@ fn assert_tree(
     rt: &impl Abort,
     nodes: [Node<VecPacket, MemSink>; 7],
     one: &[u8],
+    end: &End,
     s: &mut VecStore,
 ) {
     let [third, head, first, dup, skip, second, outlet] = nodes;
-    assert_eq!(rt; sums_of(rt, third, Some(b"cf"), &[], s), moved(2, 0));
-    assert_eq!(rt; sums_of(rt, head, None, &[], s), moved(0, 3));
-    assert_eq!(rt; sums_of(rt, first, Some(one), &[], s), moved(3, 0));
-    assert_eq!(rt; sums_of(rt, dup, None, &[], s), moved(3, 3));
+    assert_eq!(rt; sums_of(rt, third, Some(b"cf"), &[], end, s), moved(2, 0));
+    assert_eq!(rt; sums_of(rt, head, None, &[], end, s), moved(0, 3));
+    assert_eq!(rt; sums_of(rt, first, Some(one), &[], end, s), moved(3, 0));
+    assert_eq!(rt; sums_of(rt, dup, None, &[], end, s), moved(3, 3));
     let skipped = Tally {
         dropped: 1,
         cut: 5,
         ..moved(3, 2)
     };
-    assert_eq!(rt; sums_of(rt, skip, None, &[], s), skipped);
-    assert_eq!(rt; sums_of(rt, second, Some(b"abcdefg"), &[], s), moved(3, 0));
+    assert_eq!(rt; sums_of(rt, skip, None, &[], end, s), skipped);
+    assert_eq!(rt;
+        sums_of(rt, second, Some(b"abcdefg"), &[], end, s),
+        moved(3, 0)
+    );
     let left: [&[u8]; 3] = [b"abc", b"def", b"g"];
-    assert_eq!(rt; sums_of(rt, outlet, None, &left, s), moved(0, 0));
+    assert_eq!(rt; sums_of(rt, outlet, None, &left, end, s), moved(0, 0));
 }
 
 #[test]
 fn a_tree_carries_each_packet_to_all_of_its_ends(rt: HostRuntime) {
     let s = &mut VecStore::new(rt.alloc());
     let mut depot = MemDepot::new(rt.alloc());
-    let nodes = run_tree(&rt, rt.alloc(), &mut depot, s);
-    assert_tree(&rt, nodes, b"abcdefg", s);
+    let nodes = run_tree(&rt, rt.alloc(), &mut depot, &End::Whole, s);
+    assert_tree(&rt, nodes, b"abcdefg", &End::Whole, s);
 }
 
 #[test]
@@ -171,6 +207,22 @@ fn a_sink_of_a_tree_fails_while_its_neighbours_go_on(rt: HostRuntime) {
     let s = &mut VecStore::new(rt.alloc());
     let mut depot = MemDepot::new(rt.alloc());
     assert!(rt; depot.fail(DepotCall::Write, "one", 2).is_ok());
-    let nodes = run_tree(&rt, rt.alloc(), &mut depot, s);
-    assert_tree(&rt, nodes, b"abc", s);
+    let nodes = run_tree(&rt, rt.alloc(), &mut depot, &End::Whole, s);
+    assert_tree(&rt, nodes, b"abc", &End::Whole, s);
+}
+
+#[test]
+fn a_broken_end_puts_nothing_more_out(rt: HostRuntime) {
+    let s = &mut VecStore::new(rt.alloc());
+    let mut depot = MemDepot::new(rt.alloc());
+    let nodes = run_tree(&rt, rt.alloc(), &mut depot, &End::Broken, s);
+    assert_tree(&rt, nodes, b"abcdefg", &End::Broken, s);
+}
+
+#[test]
+fn what_comes_once_memory_ran_out_is_given_up(rt: HostRuntime) {
+    let s = &mut VecStore::new(rt.alloc());
+    let mut depot = MemDepot::new(rt.alloc());
+    let nodes = run_tree(&rt, rt.alloc(), &mut depot, &End::NoMemory, s);
+    assert_tree(&rt, nodes, b"abcdefg", &End::NoMemory, s);
 }

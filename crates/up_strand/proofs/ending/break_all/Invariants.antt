@@ -1,4 +1,4 @@
-use Rattle.std.proofs.Common.{◌≡◌, ℕ, ◌<◌, ◌≤◌, [], false, length, get_or}
+use Rattle.std.proofs.Common.{◌≡◌, ℕ, ◌<◌, [], false, get_or}
 use Rattle.up_shape.specs.Stores.{Stays}
 use Rattle.up_strand.specs.Nodes.{is_pipe, is_whole}
 use Rattle.up_strand.specs.Stand.{StandWith, AreAsPlaced, AreSame}

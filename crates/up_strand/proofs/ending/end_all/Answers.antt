@@ -1,4 +1,4 @@
-use Rattle.std.proofs.Common.{◌≡◌, ◌<◌, [], true, refl, length, get_or, subst, arith, inl, inr}
+use Rattle.std.proofs.Common.{◌≡◌, [], true, refl, length, get_or, subst, arith}
 use Rattle.up_shape.proofs.StoreSteps.{Stays-trans}
 use Rattle.up_strand.proofs.Finishing.{ready_later, taking_ended, done_next, either_next}
 use Rattle.up_strand.proofs.Gives.{placed_on}

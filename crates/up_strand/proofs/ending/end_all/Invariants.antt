@@ -1,4 +1,4 @@
-use Rattle.std.proofs.Common.{◌≡◌, ◌≢◌, ℕ, ◌<◌, [], length, get_or, ◌⊎◌}
+use Rattle.std.proofs.Common.{◌≢◌, ℕ, ◌<◌, [], length, get_or, ◌⊎◌}
 use Rattle.up_shape.specs.Stores.{Stays}
 use Rattle.up_strand.specs.Gifts.{NodesFit}
 use Rattle.up_strand.specs.Nodes.{IsTaking, IsSound, IsDone}

@@ -1,4 +1,4 @@
-use Rattle.std.proofs.Common.{◌≡◌, ◌<◌, [], true, false, length, set, get_or, ◌∙◌}
+use Rattle.std.proofs.Common.{true, false, set}
 use Rattle.std.proofs.lemmas.List.{length-set}
 use Rattle.up_strand.proofs.Finishing.{ends_short, ends_passed, ready_set}
 use Rattle.up_strand.proofs.Lists.{all_set}

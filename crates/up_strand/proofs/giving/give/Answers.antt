@@ -1,10 +1,9 @@
-use Rattle.std.proofs.Common.{◌≡◌, ℕ, ◌+◌, ◌<◌, ◌≤◌, true, false, refl, ◌∙◌, sym, subst, length, get_or, is_ok, arith, [], ◌∷◌}
-use Rattle.std.proofs.lemmas.List.{get_or_default}
+use Rattle.std.proofs.Common.{◌≡◌, ℕ, ◌<◌, ◌≤◌, true, false, refl, ◌∙◌, length, get_or, is_ok, arith, []}
 use Rattle.up_shape.proofs.StoreSteps.{Stays-trans, Stays-refl}
 use Rattle.up_strand.proofs.Gives.{and_ok, given_one, gave_next, gave_last, gave_none}
 use Rattle.up_strand.proofs.Lists.{all_set, left_next}
-use Rattle.up_strand.specs.Gifts.{Given, share}
-use Rattle.up_strand.specs.Nodes.{IsTaking, NodeFits, takes_from}
+use Rattle.up_strand.specs.Gifts.{Given}
+use Rattle.up_strand.specs.Nodes.{NodeFits, takes_from}
 use Rattle.up_strand.specs.Tree.{AreBetween}
 use Rattle.up_strand.specs.declared.node.Node.{Node}
 use Rattle.up_strand.proofs.giving.give.Goals as goal

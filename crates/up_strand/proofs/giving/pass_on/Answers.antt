@@ -1,4 +1,4 @@
-use Rattle.std.proofs.Common.{◌≡◌, ◌<◌, true, false, [], ◌∷◌, refl, sym, ap, ◌∙◌, length, set, get_or, arith}
+use Rattle.std.proofs.Common.{◌≡◌, ◌<◌, true, false, refl, sym, ap, ◌∙◌, length, set, get_or, arith}
 use Rattle.std.proofs.lemmas.List.{length-set}
 use Rattle.std.proofs.lemmas.List.Elements.{All-head, All-tail}
 use Rattle.up_model.specs.Packet.{IsLegal}
@@ -6,8 +6,7 @@ use Rattle.up_shape.proofs.StoreSteps.{Stays-refl, Stays-trans}
 use Rattle.up_strand.proofs.Gives.{placed_itself}
 use Rattle.up_strand.proofs.Lists.{all_set, pairs_set}
 use Rattle.up_strand.proofs.Passing.{passes_nothing, passes_next, same_outbox, waits_less, node_here, placed_passed, inner_passed, untaken_passed, never_itself, ready_passed, wait_legal, takers_same}
-use Rattle.up_strand.specs.Nodes.{IsTaking, IsAsPlaced, NodeFits, takes_from, is_outlet}
-use Rattle.up_strand.specs.Stand.{Passes}
+use Rattle.up_strand.specs.Nodes.{IsTaking, IsAsPlaced, NodeFits, takes_from}
 use Rattle.up_strand.specs.declared.node.Node.{Node}
 use Rattle.up_strand.proofs.giving.pass_on.Goals as goal
 

@@ -1,12 +1,10 @@
-use Rattle.std.proofs.Common.{◌≡◌, ◌<◌, [], ◌∷◌, None, length, set, get_or, refl, sym, ◌∙◌}
+use Rattle.std.proofs.Common.{◌<◌, [], length, set, get_or, sym}
 use Rattle.std.proofs.lemmas.List.{length-set}
-use Rattle.up_shape.proofs.StoreSteps.{Stays-trans}
 use Rattle.up_strand.proofs.Gives.{placed_on}
 use Rattle.up_strand.proofs.Lists.{all_set, pairs_on}
 use Rattle.up_strand.proofs.Passing.{stand_on}
 use Rattle.up_strand.proofs.Sweeping.{swept_on, head_untaken, placed_set, stand_head}
 use Rattle.up_strand.specs.Nodes.{IsAsPlaced, IsSound, IsTaking, NodeFits}
-use Rattle.up_strand.specs.declared.node.Node.{Node}
 use Rattle.up_strand.proofs.sweep.feed_head.Goals as goal
 
 pub settle-requires-clause-swept : goal.settle-requires-clause-swept

@@ -1,4 +1,4 @@
-use Rattle.std.proofs.Common.{◌≡◌, ◌<◌, true, false, [], refl, length, get_or, subst, ◌∙◌, arith}
+use Rattle.std.proofs.Common.{◌≡◌, true, [], refl, length, get_or, subst, arith}
 use Rattle.up_shape.proofs.StoreSteps.{Stays-trans}
 use Rattle.up_strand.proofs.Gives.{placed_on}
 use Rattle.up_strand.proofs.Lists.{pairs_on}

@@ -1,4 +1,4 @@
-use Rattle.std.proofs.Common.{Some, None, [], ◌∷◌, ap, refl}
+use Rattle.std.proofs.Common.{Some, None, ap, refl}
 use Rattle.up_outside.specs.Memory.MemSink.{sink_state}
 use Rattle.up_shape.specs.VecPackets.{plain_of}
 use Rattle.up_strand.proofs.SevenNodes.{is_swept, stands_for_nothing, sink_seat, head_seat, new_sink, new_head}

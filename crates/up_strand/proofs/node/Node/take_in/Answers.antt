@@ -1,4 +1,4 @@
-use Rattle.std.proofs.Common.{◌≡◌, ◌∙◌, ap, [], ◌∷◌, refl}
+use Rattle.std.proofs.Common.{◌∙◌, ap, [], ◌∷◌, refl}
 use Rattle.std.proofs.lemmas.List.Elements.{All-cons, All-nil}
 use Rattle.up_model.specs.Packet.{IsLegal}
 use Rattle.up_model.specs.Tallies.{added}
