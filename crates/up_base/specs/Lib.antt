@@ -5,4 +5,5 @@ pub mod Name
 pub mod NameOf
 pub mod NameText
 pub mod Number
+pub mod ReservedList
 pub mod Transport

@@ -15,7 +15,7 @@ pub struct NoRoom<T> {
 /// given up by `end`.
 #[derive(Debug, Drop)]
 pub struct ItemList<T> {
-    queue: VecDeque<T>,
+    pub(crate) queue: VecDeque<T>,
 }
 
 impl<T> Model for ItemList<T> {

@@ -1,4 +1,4 @@
-use crate::{Bytes, ItemList, NoRoom, PipeName, Text, WordList};
+use crate::{Bytes, ItemList, NoRoom, PipeName, ReservedList, Text, WordList};
 use std::alloc::Global;
 use std::process::Abort;
 use std::test::Fail;
@@ -114,4 +114,13 @@ fn lists_texts_and_names_may_cross_threads(rt: HostRuntime) -> Result<(), Fail> 
     is_send(&ItemList::<Vec<u8>>::new(alloc));
     is_send(&WordList::new(alloc));
     Ok(())
+}
+
+#[test]
+fn a_list_grows_in_the_room_that_was_taken(rt: HostRuntime) {
+    let mut reserved = ReservedList::with_room(rt.alloc(), 3).expect(&rt, "no memory");
+    for number in 0..3 {
+        reserved.push(Token { number });
+    }
+    assert_eq!(rt; spend(&rt, reserved.into_list()), 3);
 }

@@ -61,7 +61,7 @@ pub use limits::{
     DEFAULT_BLOCK, DEFAULT_QUEUE, MAX_ATTRS, MAX_BLOCK, MAX_GRAPH, MAX_LIMIT, MAX_PACKET, MAX_PATH,
     MAX_PID, MAX_PIPES, MAX_QUEUE, MAX_VALUE, MAX_WORKERS,
 };
-pub use lists::{GivenBytes, OutcomeList, PacketList, PipeList, PlaceList};
+pub use lists::{GivenBytes, OutcomeList, PacketList, PipeList, PlaceList, TallyList};
 pub use opt::Opt;
 pub use outcome::{Outcome, deciding};
 pub use packet_laws::packets_stay_legal;

@@ -1,4 +1,4 @@
-use crate::{Outcome, Pipe, PlainPacket};
+use crate::{Outcome, Pipe, PlainPacket, Tally};
 use up_base::{Bytes, ItemList};
 
 /// The pipes of a graph, in the order of its file.
@@ -6,6 +6,9 @@ pub type PipeList = ItemList<Pipe>;
 
 /// How the pipes of a graph ended, in the order of its file.
 pub type OutcomeList = ItemList<Outcome>;
+
+/// What the pipes of a graph did, in the order of its file.
+pub type TallyList = ItemList<Tally>;
 
 /// Packets in order.
 pub type PacketList = ItemList<PlainPacket>;
