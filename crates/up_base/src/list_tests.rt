@@ -119,8 +119,8 @@ fn lists_texts_and_names_may_cross_threads(rt: HostRuntime) -> Result<(), Fail> 
 #[test]
 fn a_list_grows_in_the_room_that_was_taken(rt: HostRuntime) {
     let mut reserved = ReservedList::with_room(rt.alloc(), 3).expect(&rt, "no memory");
-    for number in 0..3 {
-        reserved.push(Token { number });
-    }
+    reserved.push(Token { number: 0 });
+    reserved.push(Token { number: 1 });
+    reserved.push(Token { number: 2 });
     assert_eq!(rt; spend(&rt, reserved.into_list()), 3);
 }

@@ -2,7 +2,7 @@
 use Rattle.std.proofs.Common.{◌≡◌, List, ℕ, [], ◌∷◌, Option, Some, None, true, false, refl}
 use Rattle.std.specs.Prelude.{codes}
 use Rattle.up_model.specs.Inputs.{passes_at}
-use Rattle.up_model.specs.Plans.{changes_worker, is_head, heads, head_of, strand_of, is_fed, lanes, runs_on, heads_on}
+use Rattle.up_model.specs.Plans.{changes_worker, is_head, heads, head_of, strand_of, sinks_of, is_fed, lanes, outlets_of, lane_length, runs_on, heads_on}
 use Rattle.up_model.specs.WellFormed.{worker_places}
 use Rattle.up_model.specs.declared.form.SinkForm.TheVariants as sink_forms
 use Rattle.up_model.specs.declared.form.SourceForm.TheVariants as source_forms
@@ -39,6 +39,12 @@ pub branches_are_split :
     (heads branches ≡ 0 ∷ 2 ∷ []) × (strand_of branches 0 ≡ 0 ∷ 1 ∷ 3 ∷ []) × (strand_of branches 2 ≡ 2 ∷ [])
     × (lanes branches ≡ 2 ∷ []) × (heads_on branches (codes "a") ≡ 0 ∷ []) × (heads_on branches (codes "b") ≡ 2 ∷ [])
 branches_are_split = (refl, refl, refl, refl, refl, refl)
+
+-- the first strand fills the lane of the second, and each has a sink of its own
+pub branches_are_joined :
+    (outlets_of branches 0 ≡ 2 ∷ []) × (outlets_of branches 2 ≡ []) × (lane_length branches 2 ≡ 64)
+    × (sinks_of branches 0 ≡ 3 ∷ []) × (sinks_of branches 2 ≡ 2 ∷ [])
+branches_are_joined = (refl, refl, refl, refl, refl)
 
 -- two sources on one worker are two strands, and neither has a lane
 abbrev two_sources : List Pipe
