@@ -5,6 +5,7 @@ use Rattle.up_model.specs.declared.event_kind.EventKind.TheVariants.{Drop, Cut, 
 use Rattle.up_probe.specs.Chain.{catching_depth}
 use Rattle.up_model.specs.Tallies.{nothing as no_sums}
 use Rattle.up_probe.specs.Event.{event_kind, with_event}
+use Rattle.up_probe.specs.Thrown.{events_sums}
 use Rattle.up_probe.specs.declared.event.Event.TheVariants as events
 
 abbrev nothing : CatchSet
@@ -31,3 +32,7 @@ drops_add_up = refl
 
 pub sum_stops : (with_event (events.Cut 9) (record no_sums { cut = 2 ^ 64 - 2 })).cut ≡ 2 ^ 64 - 1
 sum_stops = refl
+
+pub of_all_kinds : events_sums (events.Drop 3 ∷ events.SyncLost ∷ events.Cut 2 ∷ events.Drop 4 ∷ events.SyncGained ∷ [])
+    ≡ record { taken = 0; put = 0; dropped = 7; cut = 2; gained = 1; lost = 1 }
+of_all_kinds = refl

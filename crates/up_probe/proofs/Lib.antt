@@ -1,1 +1,2 @@
 mod ChainExamples
+pub mod Passed

@@ -1,2 +1,3 @@
 pub mod Chain
 pub mod Event
+pub mod Thrown

@@ -4,6 +4,7 @@
 mod catching;
 mod caught;
 mod event;
+mod laws;
 mod probe_chain;
 mod sums;
 #[cfg(test)]
@@ -11,4 +12,5 @@ mod tests;
 
 pub use caught::Caught;
 pub use event::Event;
+pub use laws::a_probe_passes_what_it_does_not_catch;
 pub use probe_chain::ProbeChain;

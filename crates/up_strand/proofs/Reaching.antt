@@ -1,17 +1,14 @@
 -- What the nodes of a strand took and put out is what the graph says, by induction on their ranks.
-use Rattle.std.proofs.Common.{◌≡◌, ℕ, zero, suc, ◌+◌, ◌<◌, ◌≤◌, List, [], ◌++◌, length, map, get_or, Bool, true, false, not, Option, Some, None, slice_get, refl, sym, ap, ◌∙◌, subst, append-nil, append_assoc, arith, inl, inr, if◌then◌else◌}
+use Rattle.std.proofs.Common.{◌≡◌, ℕ, zero, suc, ◌+◌, ◌<◌, List, [], ◌++◌, length, map, get_or, Bool, true, false, Option, Some, None, slice_get, refl, sym, ap, ◌∙◌, subst, append-nil, append_assoc, arith, inl, inr}
 use Rattle.std.specs.Prelude.{MatchOption, unwrap_or}
 use Rattle.std.specs.Io.KnownBytes.{Appends}
-use Rattle.std.specs.Option.{IsSome}
 use Rattle.std.proofs.lemmas.Bool.Decides.{eqb_tells}
 use Rattle.up_base.specs.Lists.{IsPrefix}
 use Rattle.up_model.proofs.EveryKind.{lawful}
-use Rattle.up_model.proofs.GraphFlows.{written_grows}
+use Rattle.up_model.proofs.GraphFlows.{written_grows, so_far-wholly}
 use Rattle.up_model.proofs.Ways.{flow_by-unrolled}
 use Rattle.up_model.specs.Chain.{IsRawSink}
-use Rattle.up_model.specs.Ends.{is_source}
-use Rattle.up_model.specs.Inputs.{source_of}
-use Rattle.up_model.specs.Kinds.{IsWithinBounds, settled_output, module_kind, share_of, written_of}
+use Rattle.up_model.specs.Kinds.{IsWithinBounds, output_of, settled_output, module_kind, share_of, written_of}
 use Rattle.up_model.specs.Meaning.{Doing, Feeding, wholly, so_far, selected, done_by, shared, taken_from, taken_by, work_at, flow_by, pipe_work, input_by, bytes_by}
 use Rattle.up_model.specs.Packet.{Flow, joined}
 use Rattle.up_model.specs.Tallies.{stopped}
@@ -23,16 +20,16 @@ use Rattle.up_model.specs.declared.pipe.Pipe.{Pipe}
 use Rattle.up_model.specs.declared.plain_packet.PlainPacket.{PlainPacket}
 use Rattle.up_outside.specs.States.{SinkState}
 use Rattle.up_strand.proofs.NodeSteps.{head_work, sink_work}
-use Rattle.up_strand.specs.Nodes.{Seat, PartStands, NodeStands, IsSound, IsDone, node_work, is_outlet, is_whole, has_ended, is_pipe, takes_from}
-use Rattle.up_strand.specs.OfGraph.{IsInputOf, IsNodeOf, AreNodesOf, AreFed, AreFedInPart, IsReached, IsReachedInPart}
-use Rattle.up_strand.specs.Stand.{Past, Stand, AreTaking, AreSettled}
-use Rattle.up_strand.specs.Tree.{IsTree, HasTree}
+use Rattle.up_strand.specs.Nodes.{Seat, PartStands, node_work, is_outlet, is_whole, has_ended, is_pipe, takes_from}
+use Rattle.up_strand.specs.OfGraph.{IsInputOf, AreNodesOf, AreFed, AreFedInPart, IsReached, IsReachedInPart}
+use Rattle.up_strand.specs.Stand.{Past, Stand, AreSettled}
+use Rattle.up_strand.specs.Tree.{IsTree}
 use Rattle.up_strand.specs.declared.node.Node.{Node}
 use Rattle.up_strand.specs.declared.node.Part.{Part}
 use Rattle.up_strand.specs.declared.node.Part.TheVariants.{Head, Pipe as PipePart, Sink, Outlet, Ended}
 
 -- no kind has another in its place, and each gives its whole output
-same_kind : (numbers : List ℕ) (kind : Kind) → module_kind numbers kind ≡ kind
+pub same_kind : (numbers : List ℕ) (kind : Kind) → module_kind numbers kind ≡ kind
 same_kind numbers (kinds.Source path form limit) = refl
 same_kind numbers (kinds.Sink path form) = refl
 same_kind numbers kinds.Idem = refl
@@ -41,7 +38,7 @@ same_kind numbers kinds.Dup = refl
 same_kind numbers (kinds.Skip bytes) = refl
 same_kind numbers (kinds.DelAttr attr) = refl
 
-whole_output : (kind : Kind) (select : Option ℕ) (flow : Flow) → share_of kind select flow ≡ flow
+pub whole_output : (kind : Kind) (select : Option ℕ) (flow : Flow) → share_of kind select flow ≡ flow
 whole_output (kinds.Source path form limit) select flow = refl
 whole_output (kinds.Sink path form) select flow = refl
 whole_output kinds.Idem select flow = refl
@@ -72,15 +69,34 @@ unfolding some_or
 some_same x y is = ap (λ (o : Option Pipe). some_or x o) is
 
 -- a prefix of a prefix
-prefix_on : {X : Type 0} (a b c : List X) → IsPrefix a b → IsPrefix b c → IsPrefix a c
+pub prefix_on : {X : Type 0} (a b c : List X) → IsPrefix a b → IsPrefix b c → IsPrefix a c
 prefix_on a b c one two = (one.0 ++ two.0, two.1 ∙ ap (λ l. l ++ two.0) one.1 ∙ append_assoc a one.0 two.0)
 
 -- what is settled of the first packets that a pipe takes comes first of what is settled of all
-settled_first : (place : ℕ) (kind : Kind) (fed taken : Flow) → IsWithinBounds kind → IsPrefix fed taken
+pub settled_first : (place : ℕ) (kind : Kind) (fed taken : Flow) → IsWithinBounds kind → IsPrefix fed taken
     → IsPrefix (node_work false (Some kind) fed).flow (done_by so_far place kind taken).flow
 settled_first place (kinds.Source path form limit) fed taken within first = first
 settled_first place kind fed taken within first =
     subst (λ (f : Flow). IsPrefix (settled_output kind fed) (settled_output kind f)) (sym first.1) (((lawful kind).flows within).longer fed first.0)
+
+-- no kind holds packets back for the end of its flow: what it put out at an end is what it put out before. A kind that does enters here.
+holds_nothing_back : (kind : Kind) (taken : Flow) → output_of kind taken ≡ settled_output kind taken
+holds_nothing_back (kinds.Source path form limit) taken = refl
+holds_nothing_back (kinds.Sink path form) taken = refl
+holds_nothing_back kinds.Idem taken = refl
+holds_nothing_back kinds.Null taken = refl
+holds_nothing_back kinds.Dup taken = refl
+holds_nothing_back (kinds.Skip bytes) taken = refl
+holds_nothing_back (kinds.DelAttr attr) taken = refl
+
+-- what a node put out of the first packets that its pipe takes comes first of what comes of all, also where its flow has ended
+pub whole_first : (place : ℕ) (whole : Bool) (kind : Kind) (fed taken : Flow) → IsWithinBounds kind → IsPrefix fed taken
+    → IsPrefix (node_work whole (Some kind) fed).flow (done_by wholly place kind taken).flow
+whole_first place false (kinds.Source path form limit) fed taken within first = first
+whole_first place true (kinds.Source path form limit) fed taken within first = first
+whole_first place false kind fed taken within first = so_far-wholly place kind fed taken within first
+whole_first place true kind fed taken within first =
+    subst (λ (f : Flow). IsPrefix f (output_of kind taken)) (sym (holds_nothing_back kind fed)) (so_far-wholly place kind fed taken within first)
 
 -- a sink and a source do the same wholly and so far, and an outlet is no pipe
 module _ {P K : Type 0} (plain : P → PlainPacket) (state : K → SinkState) where
@@ -165,6 +181,18 @@ module _ {P K : Type 0} (plain : P → PlainPacket) (state : K → SinkState) wh
         all_gone i d within inner ∙ ap (λ (w : Work). w.flow) work
         ∙ sym (flow_by-unrolled pipes (doing whole) given (places i) (are_fed.reaches i d within inner))
 
+    -- the bytes that a sink took are those that it is to write
+    pub bytes_are : (i : ℕ) (d : Node P K) (pipe : Pipe) → i < length nodes → is_outlet (get_or nodes i d).part ≡ false
+        → MatchOption (past.seats i).kind ⊥ IsRawSink → slice_get pipes (places i) ≡ Some pipe
+        → joined (past.fed i) ≡ bytes_by (doing whole) pipes given (places i) pipe
+    bytes_are i d pipe within inner raw there =
+        let node = of.each i d within inner in
+        let same_pipe : node.pipe ≡ pipe = some_same node.pipe pipe (sym node.there ∙ there) in
+        let kind : (past.seats i).kind ≡ Some node.pipe.kind = node.kind ∙ ap Some (same_kind (selected pipes (places i)) node.pipe.kind) in
+        let fed = fed_by i d (get_or nodes i d).input node.pipe within refl inner node.input_of node.there (λ k inside less other. gone_is (rank k + 1) k d (omega arith) inside other) in
+        raw_bytes (past.seats i).kind node.pipe.kind (past.fed i) kind raw ∙ ap (written_of node.pipe.kind) fed
+        ∙ ap (bytes_by (doing whole) pipes given (places i)) same_pipe
+
     pub reached : IsReached (doing whole) pipes given state places nodes past
     reached =
         let gone : (d : Node P K) (k : ℕ) → k < length nodes → is_outlet (get_or nodes k d).part ≡ false → past.gone k ≡ flows (places k) =
@@ -177,28 +205,25 @@ module _ {P K : Type 0} (plain : P → PlainPacket) (state : K → SinkState) wh
               ∙ ap (λ (w : Work). stopped w.tally) (work_is i d within inner (λ k inside less other. gone d k inside other));
           sinks = λ i d sink pipe within is there.
               let inner : is_outlet (get_or nodes i d).part ≡ false = rw is refl in
-              let node = of.each i d within inner in
-              let same_pipe : node.pipe ≡ pipe = some_same node.pipe pipe (sym node.there ∙ there) in
               let part = rw (is, long i d within) at (stand.node i d within).part in
-              let kind : (past.seats i).kind ≡ Some node.pipe.kind = node.kind ∙ ap Some (same_kind (selected pipes (places i)) node.pipe.kind) in
-              let fed = fed_by i d (get_or nodes i d).input node.pipe within refl inner node.input_of node.there (λ k inside less other. gone d k inside other) in
-              let bytes : part.1.put ≡ bytes_by (doing whole) pipes given (places i) node.pipe =
-              part.1.whole refl ∙ raw_bytes (past.seats i).kind node.pipe.kind (past.fed i) kind part.0 ∙ ap (written_of node.pipe.kind) fed in
-              subst (λ (p : Pipe). Appends (past.seats i).start.written (state sink).written (bytes_by (doing whole) pipes given (places i) p)) same_pipe
-              (subst (Appends (past.seats i).start.written (state sink).written) bytes part.1.appended);
+              let bytes : part.1.put ≡ bytes_by (doing whole) pipes given (places i) pipe = part.1.whole refl ∙ bytes_are i d pipe within inner part.0 there in
+              subst (Appends (past.seats i).start.written (state sink).written) bytes part.1.appended;
         }
 
-  module _ (pipes : List Pipe) (places : ℕ → ℕ) (given : Feeding) (nodes : List (Node P K)) (past : Past) (rank : ℕ → ℕ) (tree : IsTree rank nodes)
-      (stand : Stand plain state nodes past) (of : AreNodesOf pipes places nodes past) (taking : AreTaking nodes)
-      (are_fed : AreFedInPart so_far pipes given places nodes past) where
-    abbrev settled_flows : ℕ → Flow
-    settled_flows = flow_by so_far pipes given
+  -- so of first parts, where what each node puts out of a first part of what its pipe takes comes first of what the pipe puts out
+  module _ (does : Doing) (pipes : List Pipe) (places : ℕ → ℕ) (given : Feeding) (nodes : List (Node P K)) (past : Past) (rank : ℕ → ℕ) (tree : IsTree rank nodes)
+      (stand : Stand plain state nodes past) (of : AreNodesOf pipes places nodes past)
+      (firsts : (i : ℕ) (d : Node P K) → i < length nodes → (kind : Kind) (taken : Flow) → IsWithinBounds kind → IsPrefix (past.fed i) taken
+      → IsPrefix (node_work (is_whole (get_or nodes i d).part) (Some kind) (past.fed i)).flow (done_by does (places i) kind taken).flow)
+      (are_fed : AreFedInPart does pipes given places nodes past) where
+    abbrev flows_of : ℕ → Flow
+    flows_of = flow_by does pipes given
 
     -- what a node took comes first, where what its input put out does
     fed_first : (i : ℕ) (d : Node P K) (input : Option ℕ) (pipe : Pipe) → i < length nodes → (get_or nodes i d).input ≡ input
         → is_outlet (get_or nodes i d).part ≡ false → IsInputOf pipes places input pipe → slice_get pipes (places i) ≡ Some pipe
-        → ((k : ℕ) → k < length nodes → rank k < rank i → is_outlet (get_or nodes k d).part ≡ false → IsPrefix (past.gone k) (settled_flows (places k)))
-        → IsPrefix (past.fed i) (input_by so_far pipes given (places i) pipe)
+        → ((k : ℕ) → k < length nodes → rank k < rank i → is_outlet (get_or nodes k d).part ≡ false → IsPrefix (past.gone k) (flows_of (places k)))
+        → IsPrefix (past.fed i) (input_by does pipes given (places i) pipe)
     fed_first i d None pipe within is own input there before = are_fed.head i d pipe within is there
     fed_first i d (Some k) pipe within is own input there before =
         let takes : takes_from (get_or nodes i d).input k ≡ true =
@@ -206,55 +231,59 @@ module _ {P K : Type 0} (plain : P → PlainPacket) (state : K → SinkState) wh
         let behind = tree.inputs i d k within takes in
         let inner = of.inner i k d within takes in
         let input_node = of.each k d behind.0 inner in
-        let shares : taken_by pipes settled_flows pipe ≡ settled_flows (places k) =
-        ap (taken_from pipes settled_flows pipe.select) input ∙ ap (λ (o : Option Pipe). shared o pipe.select (settled_flows (places k))) input_node.there
-        ∙ whole_output input_node.pipe.kind pipe.select (settled_flows (places k)) in
-        let unfed : input_by so_far pipes given (places i) pipe ≡ taken_by pipes settled_flows pipe =
-        ap (λ fed. unwrap_or fed (taken_by pipes settled_flows pipe)) (are_fed.behind i k d within own takes) in
-        subst (λ (f : Flow). IsPrefix f (input_by so_far pipes given (places i) pipe)) (sym (stand.edge i d k within takes))
+        let shares : taken_by pipes flows_of pipe ≡ flows_of (places k) =
+        ap (taken_from pipes flows_of pipe.select) input ∙ ap (λ (o : Option Pipe). shared o pipe.select (flows_of (places k))) input_node.there
+        ∙ whole_output input_node.pipe.kind pipe.select (flows_of (places k)) in
+        let unfed : input_by does pipes given (places i) pipe ≡ taken_by pipes flows_of pipe =
+        ap (λ fed. unwrap_or fed (taken_by pipes flows_of pipe)) (are_fed.behind i k d within own takes) in
+        subst (λ (f : Flow). IsPrefix f (input_by does pipes given (places i) pipe)) (sym (stand.edge i d k within takes))
         (subst (IsPrefix (past.gone k)) (sym (unfed ∙ shares)) (before k behind.0 behind.1 inner))
 
     -- what has left each node comes first of what its pipe puts out
     pub gone_first : (n i : ℕ) (d : Node P K) → rank i < n → i < length nodes → is_outlet (get_or nodes i d).part ≡ false
-        → IsPrefix (past.gone i) (settled_flows (places i))
+        → IsPrefix (past.gone i) (flows_of (places i))
     gone_first zero i d below within inner = absurd (omega arith)
     gone_first (suc n) i d below within inner =
         let node = of.each i d within inner in
         let stood = stand.node i d within in
-        let taken = input_by so_far pipes given (places i) node.pipe in
+        let taken = input_by does pipes given (places i) node.pipe in
         let kind : (past.seats i).kind ≡ Some node.pipe.kind = node.kind ∙ ap Some (same_kind (selected pipes (places i)) node.pipe.kind) in
         let waits = map plain (get_or nodes i d).out.packets in
         let left : IsPrefix (past.gone i) (node_work (is_whole (get_or nodes i d).part) (past.seats i).kind (past.fed i)).flow =
         (waits ++ stood.holds.lacking, stood.holds.flow ∙ append_assoc (past.gone i) waits stood.holds.lacking) in
-        let left_so_far : IsPrefix (past.gone i) (node_work false (Some node.pipe.kind) (past.fed i)).flow = rw ((taking i d within).goes_on, kind) at left in
+        let left_of_kind : IsPrefix (past.gone i) (node_work (is_whole (get_or nodes i d).part) (Some node.pipe.kind) (past.fed i)).flow = rw kind at left in
         let fed = fed_first i d (get_or nodes i d).input node.pipe within refl inner node.input_of node.there (λ k inside less other. gone_first n k d (omega arith) inside other) in
-        let settles = settled_first (places i) node.pipe.kind (past.fed i) taken (rw kind at stood.within) fed in
-        let is_flow : (done_by so_far (places i) node.pipe.kind taken).flow ≡ settled_flows (places i) =
-        ap (λ k. (done_by so_far (places i) k taken).flow) (sym (same_kind (selected pipes (places i)) node.pipe.kind))
-        ∙ ap (λ (o : Option Pipe). (work_at so_far pipes given settled_flows (places i) o).flow) (sym node.there)
-        ∙ sym (flow_by-unrolled pipes so_far given (places i) (are_fed.reaches i d within inner)) in
-        prefix_on _ _ _ left_so_far (subst (IsPrefix (node_work false (Some node.pipe.kind) (past.fed i)).flow) is_flow settles)
+        let comes_first = firsts i d within node.pipe.kind taken (rw kind at stood.within) fed in
+        let is_flow : (done_by does (places i) node.pipe.kind taken).flow ≡ flows_of (places i) =
+        ap (λ k. (done_by does (places i) k taken).flow) (sym (same_kind (selected pipes (places i)) node.pipe.kind))
+        ∙ ap (λ (o : Option Pipe). (work_at does pipes given flows_of (places i) o).flow) (sym node.there)
+        ∙ sym (flow_by-unrolled pipes does given (places i) (are_fed.reaches i d within inner)) in
+        prefix_on _ _ _ left_of_kind (subst (IsPrefix (node_work (is_whole (get_or nodes i d).part) (Some node.pipe.kind) (past.fed i)).flow) is_flow comes_first)
 
-    pub reached_in_part : IsReachedInPart so_far pipes given state places nodes past
+    -- the bytes that a sink took come first of those that it is to write
+    pub bytes_first : (i : ℕ) (d : Node P K) (pipe : Pipe) → i < length nodes → is_outlet (get_or nodes i d).part ≡ false
+        → MatchOption (past.seats i).kind ⊥ IsRawSink → slice_get pipes (places i) ≡ Some pipe
+        → IsPrefix (joined (past.fed i)) (bytes_by does pipes given (places i) pipe)
+    bytes_first i d pipe within inner raw there =
+        let node = of.each i d within inner in
+        let bytes = bytes_by does pipes given (places i) node.pipe in
+        let same_pipe : node.pipe ≡ pipe = some_same node.pipe pipe (sym node.there ∙ there) in
+        let kind : (past.seats i).kind ≡ Some node.pipe.kind = node.kind ∙ ap Some (same_kind (selected pipes (places i)) node.pipe.kind) in
+        let fed = fed_first i d (get_or nodes i d).input node.pipe within refl inner node.input_of node.there (λ k inside less other. gone_first (rank k + 1) k d (omega arith) inside other) in
+        subst (λ (p : Pipe). IsPrefix (joined (past.fed i)) (bytes_by does pipes given (places i) p)) same_pipe
+        (subst (λ (l : List ℕ). IsPrefix l bytes) (sym (raw_bytes (past.seats i).kind node.pipe.kind (past.fed i) kind raw))
+        (written_grows node.pipe.kind _ _ (rw kind at (stand.node i d within).within) fed))
+
+    pub reached_in_part : IsReachedInPart does pipes given state places nodes past
     reached_in_part =
-        let gone : (d : Node P K) (k : ℕ) → k < length nodes → is_outlet (get_or nodes k d).part ≡ false → IsPrefix (past.gone k) (settled_flows (places k)) =
+        let gone : (d : Node P K) (k : ℕ) → k < length nodes → is_outlet (get_or nodes k d).part ≡ false → IsPrefix (past.gone k) (flows_of (places k)) =
         λ d k within inner. gone_first (rank k + 1) k d (omega arith) within inner in
         record {
           put = λ i d within inner. gone d i within inner;
           outlets = λ i k d within takes.
-              subst (λ (f : Flow). IsPrefix f (settled_flows (places k))) (sym (stand.edge i d k within takes)) (gone d k (tree.inputs i d k within takes).0 (of.inner i k d within takes));
+              subst (λ (f : Flow). IsPrefix f (flows_of (places k))) (sym (stand.edge i d k within takes)) (gone d k (tree.inputs i d k within takes).0 (of.inner i k d within takes));
           sinks = λ i d sink failed pipe within is there.
               let inner : is_outlet (get_or nodes i d).part ≡ false = rw is refl in
-              let node = of.each i d within inner in
-              let stood = stand.node i d within in
-              let bytes = bytes_by so_far pipes given (places i) node.pipe in
-              let same_pipe : node.pipe ≡ pipe = some_same node.pipe pipe (sym node.there ∙ there) in
-              let part = rw is at stood.part in
-              let kind : (past.seats i).kind ≡ Some node.pipe.kind = node.kind ∙ ap Some (same_kind (selected pipes (places i)) node.pipe.kind) in
-              let fed = fed_first i d (get_or nodes i d).input node.pipe within refl inner node.input_of node.there (λ k inside less other. gone d k inside other) in
-              let written : IsPrefix (joined (past.fed i)) bytes =
-              subst (λ (l : List ℕ). IsPrefix l bytes) (sym (raw_bytes (past.seats i).kind node.pipe.kind (past.fed i) kind part.0))
-              (written_grows node.pipe.kind _ _ (rw kind at stood.within) fed) in
-              let first = prefix_on part.1.put (joined (past.fed i)) bytes part.1.prefix written in
-              (part.1.put, part.1.appended, subst (λ (p : Pipe). IsPrefix part.1.put (bytes_by so_far pipes given (places i) p)) same_pipe first);
+              let part = rw is at (stand.node i d within).part in
+              (part.1.put, part.1.appended, prefix_on part.1.put (joined (past.fed i)) _ part.1.prefix (bytes_first i d pipe within inner part.0 there));
         }

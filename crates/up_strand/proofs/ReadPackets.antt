@@ -4,7 +4,7 @@ use Rattle.std.proofs.lemmas.List.{length-take-le}
 use Rattle.up_model.specs.declared.plain_packet.PlainPacket.{PlainPacket}
 use Rattle.up_outside.specs.Counts.{CountsWhere}
 use Rattle.up_outside.specs.States.{SourceState}
-use Rattle.up_strand.specs.Reads.{Took, Fills, is_fault, is_read_fault, AreReadAs, ReadsPacket}
+use Rattle.up_strand.specs.Reads.{WereRead, Fills, is_fault, is_read_fault, AreReadAs, ReadsPacket}
 use Rattle.up_strand.specs.declared.fill.Filled.{Filled}
 use Rattle.up_strand.specs.declared.source_packet.Next.{Next}
 
@@ -17,7 +17,7 @@ read_as plain block left want old new room filled next fits in_block in_limit in
     let count : length (take filled.count room) ≡ filled.count = length-take-le filled.count room (omega (arith, fits, in_room)) in
     record {
       taken = take filled.count room;
-      took = subst (Took old new (take filled.count room)) (sym count) fills.took;
+      took = subst (WereRead old new (take filled.count room)) (sym count) fills.took;
       in_block = omega (arith, count, fits, in_block);
       in_limit = omega (arith, count, fits, in_limit);
       are = are count;

@@ -1,9 +1,17 @@
 pub mod AnyModule
+pub mod Closing
 pub mod Gifts
+pub mod History
+pub mod Making
 pub mod Nodes
 pub mod OfGraph
 pub mod Reads
+pub mod Shapes
 pub mod Stand
+pub mod Steps
+pub mod StrandCalls
+pub mod Strands
+pub mod TakenOut
 pub mod Tree
 pub mod Waiting
 pub mod Writing

@@ -1,5 +1,5 @@
 -- The nodes of a strand as pipes of a graph, and what they are to have taken and put out.
-use Rattle.std.specs.Prelude.{◌≡◌, ℕ, ◌<◌, List, length, slice_get, slice_index_or, Bool, true, false, Option, Some, None, if◌then◌else◌}
+use Rattle.std.specs.Prelude.{◌≡◌, ℕ, ◌<◌, List, length, slice_get, slice_index_or, Bool, true, false, Option, Some, None}
 use Rattle.std.specs.Io.KnownBytes.{Appends}
 use Rattle.std.specs.Option.{IsSome}
 use Rattle.up_model.specs.Inputs.{reached}
@@ -8,7 +8,6 @@ use Rattle.up_model.specs.Kinds.{module_kind}
 use Rattle.up_model.specs.Meaning.{Doing, Feeding, is_fed_by, selected, flow_by, pipe_work, input_by, bytes_by}
 use Rattle.up_model.specs.Packet.{Flow}
 use Rattle.up_model.specs.Tallies.{stopped}
-use Rattle.up_model.specs.declared.kind.Kind.{Kind}
 use Rattle.up_model.specs.declared.pipe.Pipe.{Pipe}
 use Rattle.up_outside.specs.States.{SinkState}
 use Rattle.up_strand.specs.Nodes.{Seat, is_outlet, takes_from}

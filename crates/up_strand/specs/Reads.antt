@@ -13,7 +13,7 @@ use Rattle.up_strand.specs.declared.source_packet.Next.{Next}
 use Rattle.up_strand.specs.declared.source_packet.Next.TheVariants.{Packet, Last, End, Fault, TooLong, NoMemory}
 
 -- these bytes were read, so many, and the entry is the same
-pub record Took (old new : SourceState) (bytes : List ℕ) (count : ℕ) : Type 0 where
+pub record WereRead (old new : SourceState) (bytes : List ℕ) (count : ℕ) : Type 0 where
   pub bytes_of : Consumes old.left new.left bytes
   pub sum : Then (λ before after. after ≡ before + count) old.moved new.moved
   pub place : new.place ≡ old.place
@@ -26,7 +26,7 @@ is_fault stops.Fault = true
 
 -- the front of the room was filled
 pub record Fills (old new : SourceState) (room : List ℕ) (filled : Filled) : Type 0 where
-  pub took : Took old new (take filled.count room) filled.count
+  pub took : WereRead old new (take filled.count room) filled.count
   pub end : filled.stop ≡ stops.End → IsAtEnd new.left
   pub faults : CountsWhere (is_fault filled.stop) old.faults new.faults
 
@@ -54,7 +54,7 @@ module _ {P : Type 0} (plain : P → PlainPacket) (block left : ℕ) where
   -- a source that may give so many bytes more gave at most a block, and at most one byte more than that
   pub record ReadsPacket (old new : SourceState) (next : Next P) : Type 0 where
     pub taken : List ℕ
-    pub took : Took old new taken (length taken)
+    pub took : WereRead old new taken (length taken)
     pub in_block : length taken ≤ block
     pub in_limit : length taken ≤ left + 1
     pub are : AreReadAs new.left taken next
@@ -69,11 +69,11 @@ NextFits fits family Fault = Unit {0}
 NextFits fits family TooLong = Unit {0}
 NextFits fits family NoMemory = Unit {0}
 
--- more was drawn of the store for each packet
+-- more was drawn of the store wherever there was room to read into
 abbrev pub DrewFor : {P : Type 0} → ℕ → ℕ → Next P → Type 0
 DrewFor before now (Packet p) = before < now
 DrewFor before now (Last p) = before < now
-DrewFor before now End = Unit {0}
-DrewFor before now Fault = Unit {0}
-DrewFor before now TooLong = Unit {0}
+DrewFor before now End = before < now
+DrewFor before now Fault = before < now
+DrewFor before now TooLong = before < now
 DrewFor before now NoMemory = Unit {0}

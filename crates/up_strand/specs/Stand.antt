@@ -3,7 +3,7 @@ use Rattle.std.specs.Prelude.{◌≡◌, ℕ, ◌<◌, List, [], ◌++◌, lengt
 use Rattle.up_model.specs.Packet.{Flow}
 use Rattle.up_model.specs.declared.plain_packet.PlainPacket.{PlainPacket}
 use Rattle.up_outside.specs.States.{SinkState}
-use Rattle.up_strand.specs.Nodes.{IsTaking, IsSound, IsDone, IsAsPlaced, Seat, NodeStands, is_outlet, takes_from}
+use Rattle.up_strand.specs.Nodes.{IsTaking, IsSound, IsDone, IsAsPlaced, Seat, NodeStands, is_outlet, is_whole, takes_from}
 use Rattle.up_strand.specs.Tree.{AllAt, Pairwise}
 use Rattle.up_strand.specs.declared.node.Node.{Node}
 
@@ -82,6 +82,11 @@ AreSound nodes = AllAt IsSound nodes
 -- every flow came to its whole end, and memory ran out at no node
 abbrev pub AreDone : {P K : Type 0} → List (Node P K) → Type 0
 AreDone nodes = AllAt IsDone nodes
+
+-- its flow didn't come to its whole end, and memory didn't run out at it
+pub record IsUnfinished {P K : Type 0} (node : Node P K) : Type 0 where
+  pub long : node.short ≡ false
+  pub part : is_whole node.part ≡ false
 
 -- nothing waits at the node, unless it is left there for another strand
 abbrev pub IsSettled : {P K : Type 0} → Node P K → Type 0

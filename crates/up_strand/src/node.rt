@@ -269,7 +269,7 @@ impl<P: LocalPacket, K: Sink> Node<P, K> {
 }
 
 /// Gives up all packets that wait.
-fn give_up_waiting<P: LocalPacket>(out: &mut Outbox<P>, s: &mut P::Store)
+pub(crate) fn give_up_waiting<P: LocalPacket>(out: &mut Outbox<P>, s: &mut P::Store)
     requires family { All (λ p. P.fits p (P.Store.state s.old).family) out.old.packets }
     ensures empty { out.new.packets ≡ [] }
     ensures tally { out.new.tally ≡ out.old.tally }
@@ -307,7 +307,7 @@ fn write_unless_failed<P: LocalPacket, K: Sink>(
 }
 
 /// Puts a part back in its place.
-fn give_back<K>(place: &mut Part<K>, part: Part<K>)
+pub(crate) fn give_back<K>(place: &mut Part<K>, part: Part<K>)
     requires { has_ended place.old ≡ true }
     ensures { place.new ≡ part }
 {

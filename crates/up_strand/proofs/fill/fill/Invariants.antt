@@ -1,5 +1,5 @@
 use Rattle.std.proofs.Common.{◌≡◌, ◌≤◌, ◌-◌, length, take}
-use Rattle.up_strand.specs.Reads.{Took}
+use Rattle.up_strand.specs.Reads.{WereRead}
 use Rattle.up_strand.proofs.fill.fill.Given as goal
 
 abbrev pub invariant-loop-count : goal.invariant-loop-count
@@ -7,7 +7,7 @@ invariant-loop-count g l =
     let state = g.S.Source.state in
     record {
       within : l.count ≤ length l.room;
-      took : Took (state l.initial.source) (state l.source) (take l.count l.room) l.count;
+      took : WereRead (state l.initial.source) (state l.source) (take l.count l.room) l.count;
       faults : (state l.source).faults ≡ (state l.initial.source).faults;
     }
 

@@ -1,12 +1,12 @@
-use Rattle.std.proofs.Common.{◌≡◌, true, false, refl}
-use Rattle.up_strand.proofs.Reaching.{reached, whole_as_sound, whole_as_done}
+use Rattle.std.proofs.Common.{true, false, refl}
+use Rattle.up_strand.proofs.Reaching.{reached, whole_as_done}
 use Rattle.up_strand.proofs.reached.nodes_come_to_the_meaning.Goals as goal
 
 pub returns-clause-settled : goal.returns-clause-settled
-returns-clause-settled g c pipes places given nodes past tree stand of settled sound are_fed =
+returns-clause-settled g c pipes places given nodes past tree stand of settled unfinished are_fed =
     reached g.P.LocalPacket.plain g.K.Sink.state false pipes places given nodes past tree.0 tree.1 stand of settled
-    (λ i d within. (sound i d within).long)
-    (λ i d within inner. rw (whole_as_sound g.P.LocalPacket.plain g.K.Sink.state _ (sound i d within).going) refl)
+    (λ i d within. (unfinished i d within).long)
+    (λ i d within inner. rw (unfinished i d within).part refl)
     are_fed
 
 pub returns-clause-whole : goal.returns-clause-whole

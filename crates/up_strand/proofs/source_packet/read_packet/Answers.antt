@@ -1,4 +1,4 @@
-use Rattle.std.proofs.Common.{rules, ◌≡◌, ◌+◌, ◌≤◌, length, take, ap, arith}
+use Rattle.std.proofs.Common.{rules, ap, arith}
 use Rattle.up_strand.proofs.ReadPackets.{read_as}
 use Rattle.up_strand.specs.Reads.{is_fault}
 use Rattle.up_strand.proofs.source_packet.read_packet.Goals as goal

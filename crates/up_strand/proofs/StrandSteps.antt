@@ -1,0 +1,261 @@
+-- A strand whose nodes took more, or whose flow ended: what goes on as it was.
+use Rattle.std.proofs.Common.{◌≡◌, ℕ, ◌<◌, List, [], ◌++◌, length, map, get_or, Bool, true, false, Option, Some, None, is_some, refl, sym, ap, ◌∙◌, subst, arith, inl, inr}
+use Rattle.std.specs.Prelude.{◌==◌, MatchOption, if◌then◌else◌}
+use Rattle.std.specs.Option.{option_map_or, option_to_list}
+use Rattle.up_base.specs.Lists.{IsPrefix}
+use Rattle.up_model.specs.Chain.{IsRawSink}
+use Rattle.up_model.specs.Ends.{is_source}
+use Rattle.up_model.specs.Packet.{Flow}
+use Rattle.up_model.specs.declared.form.SinkForm.TheVariants.{Raw}
+use Rattle.up_model.specs.declared.kind.Kind.{Kind}
+use Rattle.up_model.specs.declared.kind.Kind.TheVariants as kinds
+use Rattle.up_model.specs.declared.outcome.Outcome.{Outcome}
+use Rattle.up_model.specs.declared.outcome.Outcome.TheVariants as outcomes
+use Rattle.up_model.specs.declared.plain_packet.PlainPacket.{PlainPacket}
+use Rattle.up_outside.specs.States.{SourceState, SinkState}
+use Rattle.up_strand.proofs.NodeSteps.{any_has_module}
+use Rattle.up_strand.proofs.Sweeping.{swept_on}
+use Rattle.up_strand.specs.AnyModule.{any_kind, has_module}
+use Rattle.up_strand.specs.History.{History, head_flow}
+use Rattle.up_strand.specs.Nodes.{PartStands, Seat, is_outlet, takes_from}
+use Rattle.up_strand.specs.Stand.{Past, Stand, StandWith, Went, AreAsPlaced}
+use Rattle.up_strand.specs.Steps.{OnceLooked, TreeIs, looked_from}
+use Rattle.up_strand.specs.StrandCalls.{is_done, is_output}
+use Rattle.up_strand.specs.Strands.{IntakeStands, IsAsEnded, IsBuilt, IsSent, IsWriting, StandsFor, first_ready, has_failed_at, kept_at, place_of, want_of}
+use Rattle.up_strand.specs.declared.intake.Intake.{Intake}
+use Rattle.up_strand.specs.declared.node.Node.{Node}
+use Rattle.up_strand.specs.declared.node.Part.{Part}
+use Rattle.up_strand.specs.declared.node.Part.TheVariants.{Head, Pipe as PipePart, Sink, Outlet, Ended}
+use Rattle.up_strand.specs.declared.strand.Strand.{Strand}
+use Rattle.up_strand.specs.declared.tree.Tree.{Tree}
+
+-- a sink's pipe is no source's and has no module
+sink_is_no_source : (kind : Option Kind) → MatchOption kind ⊥ IsRawSink → MatchOption kind ⊥ (λ k. is_source k ≡ true) → ⊥
+sink_is_no_source None sink source = sink
+sink_is_no_source (Some (kinds.Sink path Raw)) sink source = absurd (cc)
+sink_is_no_source (Some kind) sink source = sink
+
+sink_has_no_module : (kind : Option Kind) → MatchOption kind ⊥ IsRawSink → MatchOption kind ⊥ (λ k. has_module k ≡ true) → ⊥
+sink_has_no_module None sink other = sink
+sink_has_no_module (Some (kinds.Sink path Raw)) sink other = absurd (cc)
+sink_has_no_module (Some kind) sink other = sink
+
+none_either : {P : Type 0} (here : Bool) (kept : Option P) → kept ≡ None → (if here then option_to_list kept else []) ≡ []
+none_either true kept none = rw none refl
+none_either false kept none = refl
+
+module _ {P K : Type 0} (plain : P → PlainPacket) (writes : K → SinkState) where
+  -- a part of a sink's pipe is a sink
+  sink_part : (seat : Seat) (short : Bool) (part : Part K) (fed : Flow) → MatchOption seat.kind ⊥ IsRawSink
+      → PartStands plain writes seat short part fed → (sink : K) × (failed : Bool) × (part ≡ Sink sink failed)
+  sink_part seat short Head fed is stands = absurd (sink_is_no_source seat.kind is stands)
+  sink_part seat short (PipePart m) fed is stands =
+      absurd (sink_has_no_module (Some (any_kind m)) (rw stands.0 at is) (any_has_module m))
+  sink_part seat short (Sink sink failed) fed is stands = (sink, failed, refl)
+  sink_part seat short Outlet fed is stands = absurd (rw stands at is)
+  sink_part seat short (Ended whole) fed is stands = absurd (sink_has_no_module seat.kind is stands)
+
+  -- a sink was one before
+  pub sink_before : (olds news : List (Node P K)) (past : Past) (fed gone : ℕ → Flow) → length news ≡ length olds → Stand plain writes olds past
+      → Stand plain writes news (record { seats = past.seats; fed = fed; gone = gone })
+      → (i : ℕ) (d : Node P K) (sink : K) (failed : Bool) → i < length news → (get_or news i d).part ≡ Sink sink failed
+      → (before : K) × (had : Bool) × ((get_or olds i d).part ≡ Sink before had)
+  sink_before olds news past fed gone same before after i d sink failed within is =
+      let now = (after.node i d within).part in
+      let sink_now : PartStands plain writes (past.seats i) (get_or news i d).short (Sink sink failed) (fed i) =
+      subst (λ (part : Part K). PartStands plain writes (past.seats i) (get_or news i d).short part (fed i)) is now in
+      sink_part (past.seats i) (get_or olds i d).short (get_or olds i d).part (past.fed i) sink_now.0 (before.node i d (omega arith)).part
+
+module _ {P S K : Type 0} (strand : Strand P S K) where
+  -- where it wants no output nothing waits for a lane
+  pub none_is_ready : is_output (want_of strand) ≡ false → first_ready strand ≡ None
+  none_is_ready wants = by_first (first_ready strand) refl
+    where
+      by_first : (first : Option ℕ) → first_ready strand ≡ first → first_ready strand ≡ None
+      by_first None is = is
+      by_first (Some i) is = let wrong : true ≡ false = rw is at wants in absurd (cc)
+
+  pub goes_on : is_output (want_of strand) ≡ false → is_done (want_of strand) ≡ false → strand.ended ≡ None
+  goes_on wants more = by_end strand.ended refl
+    where
+      by_end : (ended : Option Outcome) → strand.ended ≡ ended → strand.ended ≡ None
+      by_end None is = is
+      by_end (Some outcome) is = let wrong : true ≡ false = rw (none_is_ready wants, is) at more in absurd (cc)
+
+  -- and no packet came back
+  pub none_kept : (plain : P → PlainPacket) (h : History) (past : Past) → is_output (want_of strand) ≡ false → IsSent strand plain h past → strand.kept ≡ None
+  none_kept plain h past wants sent = by_kept strand.kept refl
+    where
+      at_end : strand.ready ≡ length strand.tree.nodes.items
+      at_end = sent.ready ∙ ap (λ first. option_map_or (λ i. i) first (length strand.tree.nodes.items)) (none_is_ready wants)
+
+      by_kept : (kept : Option P) → strand.kept ≡ kept → strand.kept ≡ None
+      by_kept None is = is
+      by_kept (Some p) is =
+          let within = (sent.kept (ap is_some is)).1 in
+          absurd (omega (arith, within, at_end))
+
+module _ {P S K : Type 0} (plain : P → PlainPacket) (reads : S → SourceState) (writes : K → SinkState)
+    (old : Strand P S K) (tree : Tree P K) (intake : Intake S) (ended : Option Outcome) (ready : ℕ)
+    (h : History) (read : List ℕ) (came fed : Flow)
+    (wants : is_output (want_of old) ≡ false) (more : is_done (want_of old) ≡ false)
+    (order : tree.order ≡ old.tree.order) (same : length tree.nodes.items ≡ length old.tree.nodes.items)
+    (placed : AreAsPlaced old.tree.nodes.items tree.nodes.items) where
+  -- the strand after the step, and what it did then
+  abbrev pub after : Strand P S K
+  after = record old { tree = tree; intake = intake; ended = ended; last = None; ready = ready }
+
+  abbrev pub grown : History
+  grown = record h {
+    read = h.read ++ read;
+    came = h.came ++ came;
+    fed = h.fed ++ fed;
+    ended = ended;
+    short = tree.short;
+    failed = has_failed_at after;
+  }
+
+  module _ (past : Past) (went : Went plain writes old.tree.nodes.items tree.nodes.items past fed) where
+    abbrev since : Past
+    since = record { seats = past.seats; fed = went.fed; gone = went.gone }
+
+    built_on : IsBuilt old h past → IsBuilt after grown since
+    built_on built = record {
+      well = built.well;
+      is_head = built.is_head;
+      places = built.places;
+      count = same ∙ built.count;
+      apart = built.apart;
+      outlets = λ i d within. (placed i d (omega arith)).outlet ∙ built.outlets i d (omega arith);
+      some = rw order built.some;
+      swept = rw order (swept_on old.tree.order.items old.tree.nodes.items tree.nodes.items same placed built.swept);
+      are = record {
+        each = λ i d within inner.
+            rw (placed i d (omega arith)).input (built.are.each i d (omega arith) (sym (placed i d (omega arith)).outlet ∙ inner));
+        inner = λ i k d within takes.
+            let here : i < length old.tree.nodes.items = omega arith in
+            let before : takes_from (get_or old.tree.nodes.items i d).input k ≡ true = rw (← (placed i d here).input) takes in
+            let inside = built.swept.tree.inputs i d k here before in
+            (placed k d inside.0).outlet ∙ built.are.inner i k d here before;
+      };
+      lanes = λ i d within is.
+          let here : i < length old.tree.nodes.items = omega arith in
+          let lane = built.lanes i d here (sym (placed i d here).outlet ∙ is) in
+          (lane.0, (placed i d here).input ∙ lane.1, lane.2);
+      head = λ i d within none.
+          let here : i < length old.tree.nodes.items = omega arith in
+          built.head i d here (sym (placed i d here).input ∙ none);
+      first = λ d e.
+          let at : get_or old.tree.order.items 0 e < length old.tree.nodes.items = built.swept.sweeps.within 0 e built.some in
+          rw order ((placed (get_or old.tree.order.items 0 e) d at).input ∙ built.first d e);
+      caught = built.caught;
+      catches = built.catches;
+      closings = built.closings;
+    }
+
+    sent_on : StandsFor plain reads writes old h → IsSent old plain h past
+        → ready ≡ option_map_or (λ i. i) (first_ready after) (length tree.nodes.items) → IsSent after plain grown since
+    sent_on stood sent found =
+        let kept : old.kept ≡ None = none_kept old plain h past wants sent in
+        let none : (i : ℕ) → kept_at old i ≡ [] = λ i. none_either (i == old.ready) old.kept kept in
+        let none_now : (i : ℕ) → kept_at after i ≡ [] = λ i. none_either (i == ready) old.kept kept in
+        let going : h.ended ≡ None = sym stood.ended.ended ∙ goes_on old wants more in
+        record {
+          sent = λ i d within is.
+              let here : i < length old.tree.nodes.items = omega arith in
+              let was : is_outlet (get_or old.tree.nodes.items i d).part ≡ true = sym (placed i d here).outlet ∙ is in
+              went.outlet i d here was ∙ sent.sent i d here was ∙ ap (λ ps. h.sent (place_of old i) ++ map plain ps) (none i ∙ sym (none_now i));
+          closed = λ i d within is.
+              let here : i < length old.tree.nodes.items = omega arith in
+              sent.closed i d here (sym (placed i d here).outlet ∙ is);
+          over = λ i d within is closed.
+              let here : i < length old.tree.nodes.items = omega arith in
+              let ended_before = (sent.over i d here (sym (placed i d here).outlet ∙ is) closed).0 in
+              let wrong : false ≡ true = rw going at ended_before in absurd (cc);
+          ready = found;
+          kept = λ is. let wrong : false ≡ true = rw kept at is in absurd (cc);
+          last = λ place is. absurd (cc);
+        }
+
+    writing_on : Stand plain writes old.tree.nodes.items past → IsWriting old h past → IsWriting after grown since
+    writing_on stand writing = record {
+      starts = λ i d sink failed within is.
+          let before = sink_before plain writes old.tree.nodes.items tree.nodes.items past went.fed went.gone same stand went.stand i d sink failed within is in
+          writing.starts i d before.0 before.1 (omega arith) before.2;
+      failed = λ place. refl;
+    }
+
+  -- for each past with which it stood
+  pub stands_on : (stood : StandsFor plain reads writes old h) → StandWith plain writes old.tree.nodes.items tree.nodes.items fed
+      → ready ≡ option_map_or (λ i. i) (first_ready after) (length tree.nodes.items)
+      → IsAsEnded after grown → IsPrefix (h.fed ++ fed) (head_flow grown) → (tree.short ≡ false → h.fed ++ fed ≡ head_flow grown)
+      → IntakeStands reads intake grown
+      → StandsFor plain reads writes after grown
+  stands_on stood step found as_ended first all intake_stands =
+      let went = step stood.past stood.stand in
+      record {
+        past = since stood.past went;
+        stand = went.stand;
+        built = built_on stood.past went stood.built;
+        rooms = record { outcomes = stood.rooms.outcomes; tallies = stood.rooms.tallies; sinks = stood.rooms.sinks };
+        ended = as_ended;
+        fed = record {
+          fed = λ i d within none.
+              let here : i < length old.tree.nodes.items = omega arith in
+              let was = sym (placed i d here).input ∙ none in
+              went.head i d here was ∙ ap (λ f. f ++ fed) (stood.fed.fed i d here was);
+          first = first;
+          all = all;
+        };
+        intake = intake_stands;
+        sent = sent_on stood.past went stood stood.sent found;
+        writing = writing_on stood.past went stood.stand stood.writing;
+      }
+
+  -- the same for a tree that took a flow, and ended so or not
+  pub stepped_on : StandsFor plain reads writes old h → StandWith plain writes old.tree.nodes.items tree.nodes.items fed
+      → TreeIs tree ended
+      → ready ≡ option_map_or (λ i. i) (first_ready after) (length tree.nodes.items)
+      → IsPrefix (h.fed ++ fed) (head_flow grown) × (tree.short ≡ false → h.fed ++ fed ≡ head_flow grown)
+      → IntakeStands reads intake grown
+      → StandsFor plain reads writes after grown
+  stepped_on stood step are found fed_so intake_stands =
+      stands_on stood step found
+      (record {
+        ended = refl;
+        short = refl;
+        settled = are.settled;
+        going = are.going;
+        done = are.done;
+        broken = are.broken;
+        gone = are.gone;
+        fallen = are.fallen;
+        owed = are.owed;
+      })
+      fed_so.0 fed_so.1 intake_stands
+
+-- how the nodes of a strand are that goes on
+pub tree_is : {P S K : Type 0} (plain : P → PlainPacket) (reads : S → SourceState) (writes : K → SinkState) (strand : Strand P S K) (h : History)
+    → StandsFor plain reads writes strand h → h.ended ≡ None → TreeIs strand.tree None
+tree_is plain reads writes strand h stood going =
+    let was = stood.ended in
+    record {
+      settled = was.settled;
+      going = λ long none. was.going (sym was.short ∙ long) going;
+      done = λ long wrong. absurd (cc);
+      broken = λ long outcome wrong. absurd (cc);
+      gone = λ either. elim either [ inl short ↦ was.gone (inl (sym was.short ∙ short)) | inr wrong ↦ absurd (cc) ];
+      fallen = λ short. was.fallen (sym was.short ∙ short);
+      owed = λ other. was.owed (λ is. let wrong : None ≡ Some outcomes.Whole = sym going ∙ is in absurd (cc));
+    }
+
+pub looked_as : {P S K : Type 0} (Holds : Strand P S K → Type 0) (now other : Strand P S K) → now ≡ other → OnceLooked other Holds → OnceLooked now Holds
+looked_as {P} {S} {K} Holds now other is holds = subst (λ (s : Strand P S K). OnceLooked s Holds) (sym is) holds
+
+-- a strand that has looked
+pub once_looked : {P S K : Type 0} (Holds : Strand P S K → Type 0) (strand looked : Strand P S K) → looked ≡ looked_from strand looked.ready
+    → looked.ready ≡ option_map_or (λ i. i) (first_ready looked) (length looked.tree.nodes.items) → OnceLooked strand Holds → Holds looked
+once_looked {P} {S} {K} Holds strand looked same found holds =
+    let at_ready : looked.ready ≡ option_map_or (λ i. i) (first_ready (looked_from strand looked.ready)) (length strand.tree.nodes.items) =
+    found ∙ ap (λ (s : Strand P S K). option_map_or (λ i. i) (first_ready s) (length s.tree.nodes.items)) same in
+    subst Holds (sym same) (holds looked.ready at_ready)

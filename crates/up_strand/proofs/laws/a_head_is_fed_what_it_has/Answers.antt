@@ -1,0 +1,20 @@
+use Rattle.up_strand.proofs.HeadFlows.{few_read_of_head, fewer_read_of_head, source_ended}
+use Rattle.up_strand.proofs.laws.a_head_is_fed_what_it_has.Goals as goal
+
+pub returns-clause-first : goal.returns-clause-first
+returns-clause-first g c strand h stands = stands.fed.first
+
+pub returns-clause-all : goal.returns-clause-all
+returns-clause-all g c strand h stands long = stands.fed.all long
+
+pub returns-clause-ended : goal.returns-clause-ended
+returns-clause-ended g c strand h pipe outcome stands long there source ended =
+    source_ended g.S.Source.state strand.intake h pipe outcome stands.intake long there source ended
+
+pub returns-clause-bounded : goal.returns-clause-bounded
+returns-clause-bounded g c strand h pipe path form limit stands there kind =
+    few_read_of_head g.S.Source.state strand.intake h pipe path form limit stands.intake there kind
+
+pub returns-clause-within : goal.returns-clause-within
+returns-clause-within g c strand h pipe path form limit stands there kind fault =
+    fewer_read_of_head g.S.Source.state strand.intake h pipe path form limit stands.intake there kind fault

@@ -1,0 +1,65 @@
+-- What the parts of a step of a strand do.
+use Rattle.std.specs.Prelude.{◌≡◌, ◌≢◌, ◌⊎◌, ℕ, List, [], ◌∷◌, length, Bool, true, false, is_some, Option, Some, None}
+use Rattle.std.specs.Option.{option_map_or}
+use Rattle.up_model.specs.Packet.{Flow}
+use Rattle.up_model.specs.declared.outcome.Outcome.{Outcome}
+use Rattle.up_model.specs.declared.outcome.Outcome.TheVariants as outcomes
+use Rattle.up_model.specs.declared.plain_packet.PlainPacket.{PlainPacket}
+use Rattle.up_outside.specs.States.{SinkState}
+use Rattle.up_strand.specs.Nodes.{is_pipe, is_whole}
+use Rattle.up_strand.specs.Stand.{StandWith, AreAsPlaced, AreDone, AreSettled, AreSound, IsUnfinished}
+use Rattle.up_strand.specs.Strands.{first_ready}
+use Rattle.up_strand.specs.Tree.{AllAt}
+use Rattle.up_strand.specs.declared.node.Node.{Node}
+use Rattle.up_strand.specs.declared.strand.Strand.{Strand}
+use Rattle.up_strand.specs.declared.tree.Tree.{Tree}
+
+-- how nodes are whose flow goes on or has ended so, by whether memory ran out
+pub record NodesAre {P K : Type 0} (short : Bool) (ended : Option Outcome)
+    (nodes : List (Node P K)) : Type 0 where
+  pub settled : AreSettled nodes
+  pub going : short ≡ false → ended ≡ None → AreSound nodes
+  pub done : short ≡ false → ended ≡ Some outcomes.Whole → AreDone nodes
+  pub broken : short ≡ false → (outcome : Outcome) → ended ≡ Some outcome
+      → outcome ≢ outcomes.Whole → AllAt IsUnfinished nodes
+  pub gone : (short ≡ true) ⊎ (is_some ended ≡ true)
+      → AllAt (λ node. is_pipe node.part ≡ false) nodes
+  pub fallen : short ≡ true → AllAt (λ node. node.short ≡ true) nodes
+  pub owed : ended ≢ Some outcomes.Whole → AllAt (λ node. is_whole node.part ≡ false) nodes
+
+abbrev pub TreeIs : {P K : Type 0} → Tree P K → Option Outcome → Type 0
+TreeIs tree ended = NodesAre tree.short ended tree.nodes.items
+
+module _ {P K : Type 0} (plain : P → PlainPacket) (state : K → SinkState) where
+  -- the nodes took this flow more
+  pub record NodesTook (olds news : List (Node P K)) (more : Flow) : Type 0 where
+    pub stand : StandWith plain state olds news more
+    pub placed : AreAsPlaced olds news
+    pub count : length news ≡ length olds
+
+  -- the same of a tree, of which memory that ran out is out
+  pub record TreeTook (old new : Tree P K) (more : Flow) : Type 0 where
+    pub nodes : NodesTook old.nodes.items new.nodes.items more
+    pub order : new.order ≡ old.order
+    pub stays : old.short ≡ true → new.short ≡ true
+
+-- a packet is taken where memory didn't run out
+abbrev pub taken_where : Bool → PlainPacket → Flow
+taken_where true packet = []
+taken_where false packet = packet ∷ []
+
+-- how the flow of a source ended that gave a whole block
+abbrev pub ended_where : Bool → Option Outcome
+ended_where true = Some outcomes.NoMemory
+ended_where false = None
+
+module _ {P S K : Type 0} (strand : Strand P S K) where
+  -- the strand from which nothing can come back, and whose first node at which an item waits is this
+  abbrev pub looked_from : ℕ → Strand P S K
+  looked_from ready = record strand { last = None; ready = ready }
+
+  -- this holds of it once it has looked for what waits for lanes
+  abbrev pub OnceLooked : (Strand P S K → Type 0) → Type 0
+  OnceLooked Holds = (ready : ℕ) → ready ≡ option_map_or (λ i. i)
+      (first_ready (looked_from ready)) (length strand.tree.nodes.items)
+      → Holds (looked_from ready)

@@ -1,0 +1,212 @@
+-- What the calls of a strand do, for every history for which it stood.
+use Rattle.std.specs.Prelude.{◌≡◌, ◌≢◌, ℕ, ◌+◌, ◌<◌, ◌≤◌, ◌==◌, ◌++◌, List, [], ◌∷◌, length, map, slice_get, slice_index_or, Bool, true, false, Option, Some, None, MatchOption, option_map, option_and_then, if◌then◌else◌}
+use Rattle.std.specs.Io.KnownBytes.{Appends, IsAtEnd}
+use Rattle.std.specs.List.{position}
+use Rattle.std.specs.Option.{option_map_or, is_some}
+use Rattle.up_base.specs.Lists.{IsPrefix}
+use Rattle.up_model.specs.Meaning.{Doing, input_by, bytes_by}
+use Rattle.up_model.specs.Packet.{Flow, IsLegal}
+use Rattle.up_model.specs.Plans.{sinks_of, strand_of}
+use Rattle.up_model.specs.declared.form.SourceForm.TheVariants.{Raw}
+use Rattle.up_model.specs.declared.kind.Kind.TheVariants as kinds
+use Rattle.up_model.specs.declared.outcome.Outcome.{Outcome}
+use Rattle.up_model.specs.declared.outcome.Outcome.TheVariants as outcomes
+use Rattle.up_model.specs.declared.pipe.Pipe.{Pipe}
+use Rattle.up_model.specs.declared.plain_packet.PlainPacket.{PlainPacket}
+use Rattle.up_outside.specs.Counts.{CountsWhere}
+use Rattle.up_outside.specs.States.{SourceState, SinkState}
+use Rattle.up_queue.specs.declared.end_kind.EndKind.{EndKind}
+use Rattle.up_queue.specs.declared.end_kind.EndKind.TheVariants as ends
+use Rattle.up_queue.specs.declared.item.Item.{Item}
+use Rattle.up_queue.specs.declared.item.Item.TheVariants.{Packet, End}
+use Rattle.up_shape.specs.Stores.{StoreState}
+use Rattle.up_strand.specs.History.{History, doing, end_by, head_flow, sums_at, to_head, told_at, told_at_last}
+use Rattle.up_strand.specs.Reads.{WereRead}
+use Rattle.up_strand.specs.Strands.{StandsFor, ended_at_fault, place_of}
+use Rattle.up_strand.specs.Writing.{IsSameSink}
+use Rattle.up_strand.specs.declared.strand.Strand.{Strand}
+use Rattle.up_strand.specs.declared.strand_end.StrandEnd.{StrandEnd}
+use Rattle.up_strand.specs.declared.want.Want.{Want}
+use Rattle.up_strand.specs.declared.want.Want.TheVariants.{Read, Input, Output, Done}
+
+-- a sink that isn't there
+abbrev pub no_sink : SinkState
+no_sink = record { written = None; place = None; moved = None; faults = 0 }
+
+-- by the place of its pipe, what each of these sinks told, which are those of the strand of the head
+abbrev pub sinks_told : {K : Type 0} → (K → SinkState) → List Pipe → ℕ → List K → ℕ → SinkState
+sinks_told writes pipes head sinks place = option_map_or writes (option_and_then (slice_get sinks)
+    (position (λ other. other == place) (sinks_of pipes head))) no_sink
+
+-- nothing was done yet
+abbrev pub begun : List Pipe → ℕ → Option SourceState → (ℕ → SinkState) → History
+begun pipes head source sinks = record {
+  pipes = pipes;
+  head = head;
+  source = source;
+  sinks = sinks;
+  read = [];
+  came = [];
+  fed = [];
+  ended = None;
+  short = false;
+  sent = λ lane. [];
+  closed = λ lane. false;
+  failed = λ place. false;
+}
+
+-- the lane for which the last item was taken out, where it can come back
+abbrev pub lane_given : {P S K : Type 0} → Strand P S K → Option ℕ
+lane_given strand = option_map (place_of strand) strand.last
+
+abbrev pub is_output : Want → Bool
+is_output Read = false
+is_output Input = false
+is_output (Output lane) = true
+is_output Done = false
+
+abbrev pub is_done : Want → Bool
+is_done Read = false
+is_done Input = false
+is_done (Output lane) = false
+is_done Done = true
+
+module _ {P : Type 0} (plain : P → PlainPacket) where
+  -- the packets of an item
+  abbrev pub packets_in : Item P → Flow
+  packets_in (Packet p) = plain p ∷ []
+  packets_in (End kind) = []
+
+  abbrev pub IsLegalItem : Item P → Type 0
+  IsLegalItem (Packet p) = IsLegal (plain p)
+  IsLegalItem (End kind) = Unit {0}
+
+  -- the same, and this item was taken out for the lane
+  abbrev pub gave_out : History → ℕ → Item P → History
+  gave_out h lane (Packet p) = record h {
+    sent = λ other. if other == lane then h.sent other ++ plain p ∷ [] else h.sent other;
+  }
+  gave_out h lane (End kind) = record h {
+    closed = λ other. if other == lane then true else h.closed other;
+  }
+
+-- how the flow of a head behind a lane ends with an item
+abbrev pub end_in : {P : Type 0} → Item P → Option Outcome
+end_in (Packet p) = None
+end_in (End ends.Whole) = Some outcomes.Whole
+end_in (End ends.Broken) = Some outcomes.Broken
+
+-- an end is of the kind
+abbrev pub IsEndOf : {P : Type 0} → EndKind → Item P → Type 0
+IsEndOf kind (Packet p) = Unit {0}
+IsEndOf kind (End other) = other ≡ kind
+
+abbrev pub ItemFits : {P F : Type 0} → (P → F → Type 0) → F → Item P → Type 0
+ItemFits fits family (Packet p) = fits p family
+ItemFits fits family (End kind) = Unit {0}
+
+module _ {P S K : Type 0} (plain : P → PlainPacket) (reads : S → SourceState)
+    (writes : K → SinkState) where
+  -- by how much a step went on
+  pub record Stepped (strand : Strand P S K) (h : History) (came : Flow) : Type 0 where
+    pub read : List ℕ
+    pub fed : Flow
+    pub ended : Option Outcome
+    pub short : Bool
+    pub failed : ℕ → Bool
+    pub stands : StandsFor plain reads writes strand (record h {
+      read = h.read ++ read;
+      came = h.came ++ came;
+      fed = h.fed ++ fed;
+      ended = ended;
+      short = short;
+      failed = failed;
+    })
+    pub stays : h.short ≡ true → short ≡ true
+
+  -- the source gave a packet's worth of bytes, or its flow ended; what was fed was drawn of the
+  -- store, and so was the room that was read into
+  pub record SteppedRead {F : Type 0} (strand : Strand P S K) (h : History)
+      (old new : StoreState F) : Type 0 where
+    pub step : Stepped strand h []
+    pub moves : step.ended ≡ None → 0 < length step.read
+    pub one : length step.fed ≤ 1
+    pub block : (pipe : Pipe) (path : List ℕ) (size limit : ℕ)
+        → slice_get h.pipes h.head ≡ Some pipe
+        → pipe.kind ≡ kinds.Source path (Raw size) limit → length step.read ≤ size
+    pub room : step.ended ≢ Some outcomes.NoMemory → old.drawn < new.drawn
+    pub drawn : old.drawn + length step.fed ≤ new.drawn
+
+  -- the item came through the lane of the head
+  pub record SteppedItem (strand : Strand P S K) (h : History) (item : Item P) : Type 0 where
+    pub step : Stepped strand h (packets_in plain item)
+    pub unread : step.read ≡ []
+    pub ended : step.ended ≡ end_in item
+
+  -- the item went out for the lane, whose end hadn't
+  pub record WentOut (strand : Strand P S K) (h : History) (lane : ℕ)
+      (item : Item P) : Type 0 where
+    pub stands : StandsFor plain reads writes strand (gave_out plain h lane item)
+    pub not_over : h.closed lane ≡ false
+    pub kind : IsEndOf (end_by h.short h.ended) item
+
+  -- the item is the one that was taken out last, for this lane
+  pub record CameOut (strand : Strand P S K) (item : Item P) : Type 0 where
+    pub h : History
+    pub lane : ℕ
+    pub given : lane_given strand ≡ Some lane
+    pub stands : StandsFor plain reads writes strand (gave_out plain h lane item)
+    pub not_over : h.closed lane ≡ false
+
+module _ (h : History) (place : ℕ) (pipe : Pipe) where
+  -- what is to be written to the sink, of the packets that the head had
+  abbrev pub bytes_due : Doing → List ℕ
+  bytes_due does = bytes_by does h.pipes (to_head h.head (head_flow h)) place pipe
+
+  -- the sink was given its bytes, or the first of them where it failed or memory ran out
+  pub record SinkEnds (now : SinkState) : Type 0 where
+    pub put : List ℕ
+    pub appended : Appends (h.sinks place).written now.written put
+    pub first : IsPrefix put (bytes_due (doing h.ended))
+    pub all : h.short ≡ false → h.failed place ≡ false → put ≡ bytes_due (doing h.ended)
+    pub faults : CountsWhere (h.failed place) (h.sinks place).faults now.faults
+    pub same : IsSameSink (h.sinks place) now
+
+-- the source gave the bytes that were read
+pub record SourceEnds (h : History) (now : SourceState) : Type 0 where
+  pub start : SourceState
+  pub told : h.source ≡ Some start
+  pub took : WereRead start now h.read (length h.read)
+  pub faults : CountsWhere (ended_at_fault h.ended) start.faults now.faults
+  pub whole : h.ended ≡ Some outcomes.Whole → IsAtEnd now.left
+
+module _ {S K : Type 0} (reads : S → SourceState) (writes : K → SinkState) where
+  -- what is left of a strand that did what the history says, and was done or not
+  pub record Finished (done : Bool) (h : History) (end : StrandEnd S K) : Type 0 where
+    pub outcomes : end.outcomes
+        ≡ map (λ place. told_at_last done (told_at h place)) (strand_of h.pipes h.head)
+    pub tallies : h.short ≡ false → end.tallies ≡ map (sums_at h) (strand_of h.pipes h.head)
+    -- where memory ran out they may be any sums
+    pub count : length end.tallies ≡ length (strand_of h.pipes h.head)
+    pub source : MatchOption end.parts.source (h.source ≡ None)
+        (λ source. SourceEnds h (reads source))
+    pub sinks : length end.parts.sinks ≡ length (sinks_of h.pipes h.head)
+    pub written : (k place : ℕ) (pipe : Pipe) (d : K)
+        → slice_get (sinks_of h.pipes h.head) k ≡ Some place
+        → slice_get h.pipes place ≡ Some pipe
+        → SinkEnds h place pipe (writes (slice_index_or end.parts.sinks k d))
+
+module _ (h : History) (lane : ℕ) (pipe : Pipe) where
+  -- what the head of the lane is to take
+  abbrev pub flow_due : Doing → Flow
+  flow_due does = input_by does h.pipes (to_head h.head (head_flow h)) lane pipe
+
+  -- what was taken out comes first of that: all of it where nothing waits, and where the end was taken out
+  pub record LaneStands (want : Want) : Type 0 where
+    pub first : IsPrefix (h.sent lane) (flow_due (doing h.ended))
+    pub all : h.short ≡ false → is_output want ≡ false
+        → h.sent lane ≡ flow_due (doing h.ended)
+    pub over : h.closed lane ≡ true → is_some h.ended ≡ true
+    pub all_over : h.short ≡ false → h.closed lane ≡ true
+        → h.sent lane ≡ flow_due (doing h.ended)
+    pub closed : want ≡ Done → h.closed lane ≡ true

@@ -1,0 +1,264 @@
+-- What a strand stands for: what it did since it was made.
+use Rattle.std.specs.Prelude.{◌≡◌, ◌≢◌, ◌⊎◌, ℕ, ◌+◌, ◌*◌, ◌<◌, ◌≤◌, ◌==◌, ◌++◌, ◌&&◌, ◌||◌, List, [], length, map, slice_get, slice_index_or, Bool, true, false, not, is_some, Option, Some, None, MatchOption, nat_le, nat_lt, option_and_then, if◌then◌else◌}
+use Rattle.std.specs.List.{Contains, range_with_len, position}
+use Rattle.std.specs.Option.{option_map_or, option_to_list}
+use Rattle.std.specs.Io.KnownBytes.{IsAtEnd}
+use Rattle.up_base.specs.Lists.{IsPrefix}
+use Rattle.up_model.specs.Inputs.{input_at, passes_at}
+use Rattle.up_model.specs.Plans.{heads, is_fed, outlets_of, sinks_of, strand_of}
+use Rattle.up_model.specs.WellFormed.{IsWellFormed}
+use Rattle.up_model.specs.declared.form.SourceForm.TheVariants.{Raw}
+use Rattle.up_model.specs.declared.kind.Kind.TheVariants as kinds
+use Rattle.up_model.specs.declared.limits.TheConstants.{MAX_LIMIT, MAX_PACKET}
+use Rattle.up_model.specs.declared.outcome.Outcome.{Outcome}
+use Rattle.up_model.specs.declared.outcome.Outcome.TheVariants as outcomes
+use Rattle.up_model.specs.declared.pipe.Pipe.{Pipe}
+use Rattle.up_model.specs.declared.plain_packet.PlainPacket.{PlainPacket}
+use Rattle.up_outside.specs.Counts.{CountsWhere}
+use Rattle.up_outside.specs.States.{SourceState, SinkState}
+use Rattle.up_strand.specs.Gifts.{NodesFit}
+use Rattle.up_strand.specs.History.{History, head_flow, outcome_of_source, outcome_without}
+use Rattle.up_strand.specs.Nodes.{is_outlet, is_pipe, is_whole}
+use Rattle.up_strand.specs.OfGraph.{AreNodesOf}
+use Rattle.up_strand.specs.Reads.{WereRead}
+use Rattle.up_strand.specs.Stand.{Past, Stand, AreSound, AreDone, AreSettled, IsUnfinished}
+use Rattle.up_strand.specs.Tree.{AllAt, IsSwept}
+use Rattle.up_strand.specs.declared.intake.Intake.{Intake}
+use Rattle.up_strand.specs.declared.intake.Intake.TheVariants.{FromSource, FromLane}
+use Rattle.up_strand.specs.declared.node.Node.{Node}
+use Rattle.up_strand.specs.declared.node.Part.{Part}
+use Rattle.up_strand.specs.declared.node.Part.TheVariants.{Head, Pipe as PipePart, Sink, Outlet, Ended}
+use Rattle.up_strand.specs.declared.strand.Strand.{Strand}
+use Rattle.up_strand.specs.declared.want.Want.{Want}
+use Rattle.up_strand.specs.declared.want.Want.TheVariants.{Read, Input, Output, Done}
+
+-- a sink that failed
+abbrev pub has_failed : {K : Type 0} → Part K → Bool
+has_failed (Sink sink failed) = failed
+has_failed part = false
+
+-- the outcome of a pipe that does this part
+abbrev pub outcome_of_part : {K : Type 0} → Part K → Bool → Option Outcome → Outcome
+outcome_of_part Head short ended = outcome_of_source short ended
+outcome_of_part (Sink sink true) short ended = outcomes.WriteFault
+outcome_of_part (Sink sink false) short ended = outcome_without short ended
+outcome_of_part (PipePart m) short ended = outcome_without short ended
+outcome_of_part Outlet short ended = outcome_without short ended
+outcome_of_part (Ended whole) short ended = outcome_without short ended
+
+module _ {P S K : Type 0} (strand : Strand P S K) where
+  -- the place of the pipe at a node, or of the head of the lane that ends there
+  abbrev pub place_of : ℕ → ℕ
+  place_of i = slice_index_or strand.places.items i 0
+
+  -- the node of the place
+  abbrev pub node_of : ℕ → Option ℕ
+  node_of place = position (λ other. other == place) strand.places.items
+
+  abbrev pub has_failed_at : ℕ → Bool
+  has_failed_at place = option_map_or (λ node. has_failed node.part)
+      (option_and_then (slice_get strand.tree.nodes.items) (node_of place)) false
+
+  -- the packet that came back for the lane that ends at a node
+  abbrev pub kept_at : ℕ → List P
+  kept_at i = if i == strand.ready then option_to_list strand.kept else []
+
+  -- an item waits at a node that fills a lane: a packet, or the end behind all of them
+  abbrev pub item_waits : ℕ → Node P K → Bool
+  item_waits i node = is_outlet node.part && (nat_lt 0 (length (kept_at i ++ node.out.packets))
+      || (is_some strand.ended && not (slice_index_or strand.closed.items i false)))
+
+  abbrev pub has_item : ℕ → Bool
+  has_item i = option_map_or (item_waits i) (slice_get strand.tree.nodes.items i) false
+
+  -- the first node at which one does
+  abbrev pub first_ready : Option ℕ
+  first_ready = position has_item (range_with_len 0 (length strand.tree.nodes.items))
+
+  abbrev pub wants_in : Intake S → Want
+  wants_in (FromSource source block limit left) = Read
+  wants_in FromLane = Input
+
+  -- items go out before anything comes in; after the end of its flow nothing does
+  abbrev pub want_of : Want
+  want_of = option_map_or (λ i. Output (place_of i)) first_ready
+      (if is_some strand.ended then Done else wants_in strand.intake)
+
+  -- what the strand holds is of the family
+  pub record StrandFits {F : Type 0} (fits : P → F → Type 0) (family : F) : Type 0 where
+    pub nodes : NodesFit fits family strand.tree.nodes.items
+    pub kept : MatchOption strand.kept (Unit {0}) (λ packet. fits packet family)
+
+  -- the strand is built of the pipes of its head's strand, in file order, and then of the ends of the lanes that it fills
+  pub record IsBuilt (h : History) (past : Past) : Type 0 where
+    pub well : IsWellFormed h.pipes
+    pub is_head : Contains (heads h.pipes) h.head
+    pub places : strand.places.items ≡ strand_of h.pipes h.head ++ outlets_of h.pipes h.head
+    pub count : length strand.tree.nodes.items ≡ length strand.places.items
+    pub apart : (i j : ℕ) → i < length strand.places.items → j < length strand.places.items
+        → place_of i ≡ place_of j → i ≡ j
+    pub outlets : (i : ℕ) (d : Node P K) → i < length strand.tree.nodes.items
+        → is_outlet (slice_index_or strand.tree.nodes.items i d).part
+        ≡ nat_le (length (strand_of h.pipes h.head)) i
+    pub some : 0 < length strand.tree.order.items
+    pub swept : IsSwept strand.tree.order.items strand.tree.nodes.items
+    pub are : AreNodesOf h.pipes place_of strand.tree.nodes.items past
+    pub lanes : (i : ℕ) (d : Node P K) → i < length strand.tree.nodes.items
+        → is_outlet (slice_index_or strand.tree.nodes.items i d).part ≡ true
+        → (k : ℕ) × ((slice_index_or strand.tree.nodes.items i d).input ≡ Some k)
+        × (input_at h.pipes (place_of i) ≡ Some (place_of k))
+    pub head : (i : ℕ) (d : Node P K) → i < length strand.tree.nodes.items
+        → (slice_index_or strand.tree.nodes.items i d).input ≡ None → place_of i ≡ h.head
+    pub first : (d : Node P K) (e : ℕ) → (slice_index_or strand.tree.nodes.items
+        (slice_index_or strand.tree.order.items 0 e) d).input ≡ None
+    pub caught : (i : ℕ) (pipe : Pipe) → i < length (strand_of h.pipes h.head)
+        → slice_get h.pipes (place_of i) ≡ Some pipe
+        → slice_get strand.caught.items i ≡ Some pipe.caught
+    pub catches : length strand.caught.items ≡ length (strand_of h.pipes h.head)
+    pub closings : length strand.closed.items ≡ length strand.places.items
+
+  -- the room that its end needs is there
+  pub record HasRooms (h : History) : Type 0 where
+    pub outcomes : strand.outcomes ≡ record {
+      room = length (strand_of h.pipes h.head);
+      items = [];
+    }
+    pub tallies : strand.tallies ≡ record {
+      room = length (strand_of h.pipes h.head);
+      items = [];
+    }
+    pub sinks : strand.sinks ≡ record { room = length (sinks_of h.pipes h.head); items = [] }
+
+  -- nothing waits but for lanes; which nodes go on, by how the flow ended and whether memory ran out
+  pub record IsAsEnded (h : History) : Type 0 where
+    pub ended : strand.ended ≡ h.ended
+    pub short : strand.tree.short ≡ h.short
+    pub settled : AreSettled strand.tree.nodes.items
+    pub going : h.short ≡ false → h.ended ≡ None → AreSound strand.tree.nodes.items
+    pub done : h.short ≡ false → h.ended ≡ Some outcomes.Whole → AreDone strand.tree.nodes.items
+    pub broken : h.short ≡ false → (outcome : Outcome) → h.ended ≡ Some outcome
+        → outcome ≢ outcomes.Whole → AllAt IsUnfinished strand.tree.nodes.items
+    -- modules are gone once the flow has ended or memory ran out
+    pub gone : (h.short ≡ true) ⊎ (is_some h.ended ≡ true)
+        → AllAt (λ node. is_pipe node.part ≡ false) strand.tree.nodes.items
+    pub fallen : h.short ≡ true → AllAt (λ node. node.short ≡ true) strand.tree.nodes.items
+    -- what they owed was put out at a whole end alone
+    pub owed : h.ended ≢ Some outcomes.Whole
+        → AllAt (λ node. is_whole node.part ≡ false) strand.tree.nodes.items
+
+  -- what has left for lanes is what was taken out, but for the packet that came back
+  pub record IsSent (plain : P → PlainPacket) (h : History) (past : Past) : Type 0 where
+    pub sent : (i : ℕ) (d : Node P K) → i < length strand.tree.nodes.items
+        → is_outlet (slice_index_or strand.tree.nodes.items i d).part ≡ true
+        → past.gone i ≡ h.sent (place_of i) ++ map plain (kept_at i)
+    pub closed : (i : ℕ) (d : Node P K) → i < length strand.tree.nodes.items
+        → is_outlet (slice_index_or strand.tree.nodes.items i d).part ≡ true
+        → slice_index_or strand.closed.items i false ≡ h.closed (place_of i)
+    -- nothing waits where the end was taken out
+    pub over : (i : ℕ) (d : Node P K) → i < length strand.tree.nodes.items
+        → is_outlet (slice_index_or strand.tree.nodes.items i d).part ≡ true
+        → h.closed (place_of i) ≡ true
+        → (is_some h.ended ≡ true)
+        × (kept_at i ++ (slice_index_or strand.tree.nodes.items i d).out.packets ≡ [])
+    pub ready : strand.ready
+        ≡ option_map_or (λ i. i) first_ready (length strand.tree.nodes.items)
+    -- a packet that came back waits at the node for whose lane it is
+    pub kept : is_some strand.kept ≡ true → (strand.last ≡ None)
+        × (strand.ready < length strand.tree.nodes.items)
+        × (nat_le (length (strand_of h.pipes h.head)) strand.ready ≡ true)
+    -- the node from which the last item was taken out can take it back
+    pub last : (at : ℕ) → strand.last ≡ Some at → (at ≤ strand.ready)
+        × (at < length strand.tree.nodes.items)
+        × (nat_le (length (strand_of h.pipes h.head)) at ≡ true)
+
+  -- the sinks are those that it was made with, and those that failed are known
+  pub record IsWriting (h : History) (past : Past) : Type 0 where
+    pub starts : (i : ℕ) (d : Node P K) (sink : K) (failed : Bool)
+        → i < length strand.tree.nodes.items
+        → (slice_index_or strand.tree.nodes.items i d).part ≡ Sink sink failed
+        → (past.seats i).start ≡ h.sinks (place_of i)
+    pub failed : (place : ℕ) → h.failed place ≡ has_failed_at place
+
+-- a read failed
+abbrev pub ended_at_fault : Option Outcome → Bool
+ended_at_fault None = false
+ended_at_fault (Some outcomes.Whole) = false
+ended_at_fault (Some outcomes.ReadFault) = true
+ended_at_fault (Some outcomes.WriteFault) = false
+ended_at_fault (Some (outcomes.TooLong limit)) = false
+ended_at_fault (Some outcomes.Broken) = false
+ended_at_fault (Some outcomes.NoMemory) = false
+
+-- how much of a source was read, by how it ended: at most one byte past its limit
+abbrev pub EndsRightly : ℕ → Option (List ℕ) → History → Option Outcome → Type 0
+EndsRightly limit rest h None = (h.short ≡ false) × (length h.read ≤ limit)
+EndsRightly limit rest h (Some outcomes.Whole) = (length h.read ≤ limit) × IsAtEnd rest
+EndsRightly limit rest h (Some outcomes.ReadFault) = length h.read ≤ limit
+EndsRightly limit rest h (Some outcomes.WriteFault) = ⊥
+EndsRightly limit rest h (Some (outcomes.TooLong most)) =
+    (most ≡ limit) × (length h.read ≡ limit + 1)
+EndsRightly limit rest h (Some outcomes.Broken) = ⊥
+EndsRightly limit rest h (Some outcomes.NoMemory) = (h.short ≡ true) × (length h.read ≤ limit + 1)
+
+-- the source of the head, which has these bounds, gave the bytes that were read
+pub record IsReading (now : SourceState) (block limit left : ℕ) (h : History) : Type 0 where
+  pub pipe : Pipe
+  pub there : slice_get h.pipes h.head ≡ Some pipe
+  pub path : List ℕ
+  pub kind : pipe.kind ≡ kinds.Source path (Raw block) limit
+  pub start : SourceState
+  pub told : h.source ≡ Some start
+  pub took : WereRead start now h.read (length h.read)
+  pub faults : CountsWhere (ended_at_fault h.ended) start.faults now.faults
+  pub ends : EndsRightly limit now.left h h.ended
+  pub rest : h.ended ≡ None → length h.read + left ≡ limit
+  pub even : h.ended ≡ None → (count : ℕ) × (length h.read ≡ count * block)
+  pub in_block : (0 < block) × (block ≤ MAX_PACKET)
+  pub in_limit : limit ≤ MAX_LIMIT
+  pub alone : h.came ≡ []
+
+-- a lane's flow ends whole or broken
+abbrev pub IsEndOfLane : Option Outcome → Type 0
+IsEndOfLane None = Unit {0}
+IsEndOfLane (Some outcomes.Whole) = Unit {0}
+IsEndOfLane (Some outcomes.ReadFault) = ⊥
+IsEndOfLane (Some outcomes.WriteFault) = ⊥
+IsEndOfLane (Some (outcomes.TooLong limit)) = ⊥
+IsEndOfLane (Some outcomes.Broken) = Unit {0}
+IsEndOfLane (Some outcomes.NoMemory) = ⊥
+
+-- the head is behind a lane
+pub record IsBehindLane (h : History) : Type 0 where
+  pub fed : passes_at is_fed h.pipes h.head ≡ true
+  pub none : h.source ≡ None
+  pub alone : h.read ≡ []
+  pub ends : IsEndOfLane h.ended
+
+abbrev pub IntakeStands : {S : Type 0} → (S → SourceState) → Intake S → History → Type 0
+IntakeStands reads (FromSource source block limit left) h =
+    IsReading (reads source) block limit left h
+IntakeStands reads FromLane h = IsBehindLane h
+
+-- the head was fed the packets that it had, or the first of them where memory ran out
+pub record IsFed {P K : Type 0} (nodes : List (Node P K)) (h : History) (past : Past) : Type 0 where
+  pub fed : (i : ℕ) (d : Node P K) → i < length nodes
+      → (slice_index_or nodes i d).input ≡ None → past.fed i ≡ h.fed
+  pub first : IsPrefix h.fed (head_flow h)
+  pub all : h.short ≡ false → h.fed ≡ head_flow h
+
+module _ {P S K : Type 0} (plain : P → PlainPacket) (reads : S → SourceState)
+    (writes : K → SinkState) where
+  -- the strand did what the history says
+  pub record StandsFor (strand : Strand P S K) (h : History) : Type 0 where
+    pub past : Past
+    pub stand : Stand plain writes strand.tree.nodes.items past
+    pub built : IsBuilt strand h past
+    pub rooms : HasRooms strand h
+    pub ended : IsAsEnded strand h
+    pub fed : IsFed strand.tree.nodes.items h past
+    pub intake : IntakeStands reads strand.intake h
+    pub sent : IsSent strand plain h past
+    pub writing : IsWriting strand h past
+
+  abbrev pub StandsForSome : Strand P S K → Type 0
+  StandsForSome strand = (h : History) × StandsFor strand h
