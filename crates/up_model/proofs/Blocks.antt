@@ -16,7 +16,7 @@ piece_of_front size a b place within =
     ∙ take-append-le size (drop (place * size) a) b (omega (arith, length-drop (place * size) a))
 
 -- so are all pieces that lie in the front
-pieces_of_front : (size : ℕ) (a b : List ℕ) (place count : ℕ) → (place + count) * size ≤ length a
+pub pieces_of_front : (size : ℕ) (a b : List ℕ) (place count : ℕ) → (place + count) * size ≤ length a
     → map (λ p. plain (piece size (a ++ b) p)) (range_with_len place count) ≡ map (λ p. plain (piece size a p)) (range_with_len place count)
 pieces_of_front size a b place zero within = refl
 pieces_of_front size a b place (suc count) within =

@@ -19,7 +19,7 @@ use Rattle.up_plan.specs.Laws.{ComesFromElsewhere}
 use Rattle.up_plan.specs.Plan.{worker_at}
 
 -- to keep by one test and then by another is to keep by both
-filter_twice : {X : Type 0} (first second both : X → Bool) → ((x : X) → both x ≡ (first x && second x))
+pub filter_twice : {X : Type 0} (first second both : X → Bool) → ((x : X) → both x ≡ (first x && second x))
     → (xs : List X) → filter second (filter first xs) ≡ filter both xs
 filter_twice first second both is [] = refl
 filter_twice first second both is (x ∷ xs) =

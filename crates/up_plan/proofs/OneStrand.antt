@@ -22,7 +22,7 @@ use Rattle.up_plan.specs.Laws.{IsInOneStrand, IsFedWithin}
 use Rattle.up_plan.specs.Plan.{worker_at}
 
 -- the two are one, where the test of a strand passes
-same_head : (own : Option ℕ) (head : ℕ) → option_map_or (λ own. own == head) own false ≡ true → own ≡ Some head
+pub same_head : (own : Option ℕ) (head : ℕ) → option_map_or (λ own. own == head) own false ≡ true → own ≡ Some head
 same_head None head is = cc
 same_head (Some own) head is = ap Some ((Decides-eqb own head).0 is)
 
@@ -55,7 +55,7 @@ module _ (pipes : List Pipe) where
   strand_has head place is =
       filter_has _ (places pipes) place (places_have pipes place (has_pipe head place is)) (rw is (eq-eqb head head refl))
 
-  in_strand : (head place : ℕ) → Contains (strand_of pipes head) place → head_of pipes place ≡ Some head
+  pub in_strand : (head place : ℕ) → Contains (strand_of pipes head) place → head_of pipes place ≡ Some head
   in_strand head place there = same_head (head_of pipes place) head (kept_passes _ (places pipes) place there)
 
   pub own_head : (head : ℕ) → Contains (heads pipes) head → head_of pipes head ≡ Some head

@@ -95,6 +95,7 @@ impl<P> Outbox<P> {
 }
 
 /// Puts the packet out. Where there is no room it is given up.
+#[inline(always)]
 pub fn put_out<P: LocalPacket>(p: P, out: &mut Outbox<P>, s: &mut P::Store) -> Result<(), NoMemory>
     requires family { P.fits p (P.Store.state s.old).family }
     ensures added { OnOk result (out.new.packets ≡ out.old.packets ++ p ∷ []) }

@@ -1,30 +1,12 @@
 -- Bytes that are cut into blocks, a packet's worth at a time.
-use Rattle.std.proofs.Common.{◌≡◌, ℕ, zero, suc, ◌+◌, ◌-◌, ◌*◌, ◌/◌, ◌<◌, ◌≤◌, List, [], ◌∷◌, ◌++◌, length, take, drop, map, refl, sym, ap, ◌∙◌, arith, length-append, length-drop}
-use Rattle.std.specs.List.{range_with_len}
-use Rattle.std.proofs.lemmas.List.{take-append-le, drop-append-le, take_all}
+use Rattle.std.proofs.Common.{◌≡◌, ℕ, ◌+◌, ◌-◌, ◌*◌, ◌/◌, ◌<◌, ◌≤◌, List, [], ◌∷◌, ◌++◌, length, take, drop, sym, ap, ◌∙◌, arith, length-append}
+use Rattle.std.proofs.lemmas.List.{take_all}
 use Rattle.std.proofs.lemmas.List.FromFn.{map-range_with_len_more}
 use Rattle.std.proofs.lemmas.Nat.{div-mul-add}
 use Rattle.std.proofs.Math.Seq.{drop-append_seam, take-append-add}
+use Rattle.up_model.proofs.Blocks.{pieces_of_front}
 use Rattle.up_model.specs.Cutting.{piece, pieces, blocks, full_blocks}
 use Rattle.up_model.specs.Packet.{plain}
-
--- a piece of the front is one of the whole
-piece_of_front : (size : ℕ) (a b : List ℕ) (place : ℕ) → (place + 1) * size ≤ length a → piece size (a ++ b) place ≡ piece size a place
-piece_of_front size a b place within =
-    let more : (place + 1) * size ≡ place * size + size = omega arith in
-    ap (take size) (drop-append-le (place * size) a b (omega arith))
-    ∙ take-append-le size (drop (place * size) a) b (omega (arith, length-drop (place * size) a))
-
--- so are all pieces that lie in the front
-pieces_of_front : (size : ℕ) (a b : List ℕ) (place count : ℕ) → (place + count) * size ≤ length a
-    → map (λ p. plain (piece size (a ++ b) p)) (range_with_len place count) ≡ map (λ p. plain (piece size a p)) (range_with_len place count)
-pieces_of_front size a b place zero within = refl
-pieces_of_front size a b place (suc count) within =
-    let apart : (place + suc count) * size ≡ (place + 1) * size + count * size = omega arith in
-    let shifted : (place + 1 + count) * size ≡ (place + suc count) * size = omega arith in
-    let one = ap plain (piece_of_front size a b place (omega arith)) in
-    let rest = pieces_of_front size a b (place + 1) count (omega arith) in
-    λ i. one i ∷ rest i
 
 -- a piece behind the front
 piece_behind : (size : ℕ) (a b : List ℕ) (count : ℕ) → length a ≡ count * size → length b ≤ size → piece size (a ++ b) count ≡ b

@@ -5,7 +5,7 @@ use Rattle.std.specs.Prelude.{All}
 use Rattle.std.specs.Option.{option_map_or}
 use Rattle.std.proofs.lemmas.Bool.{cases_Bool, cases_lt, le-leb}
 use Rattle.std.proofs.lemmas.List.{get_or-map, get_or-take, get_or_default, length-append, length-map, length-take-le}
-use Rattle.std.proofs.lemmas.Option.{slice_get-get_or, slice_get_within, get_or_from_slice_get}
+use Rattle.std.proofs.lemmas.Option.{same_Some, slice_get-get_or, slice_get_within, get_or_from_slice_get}
 use Rattle.up_model.specs.Chain.{IsRawSink}
 use Rattle.up_model.specs.Ends.{is_sink, is_source}
 use Rattle.up_model.specs.Inputs.{passes_at}
@@ -80,10 +80,7 @@ part_is_sink : {P K : Type 0} (plain : P → PlainPacket) (state : K → SinkSta
     → seat.kind ≡ Some kind → is_outlet part ≡ false → PartStands plain state seat short part fed → holds_sink part ≡ is_sink kind
 part_is_sink plain state seat kind short Head fed is inner part = source_is_none kind (rw is at part)
 part_is_sink plain state seat kind short (PipePart m) fed is inner part =
-    module_is_none kind (ap has_module (some_kind kind (any_kind m) (sym is ∙ part.0)) ∙ any_has_module m)
-  where
-    some_kind : (a b : Kind) → Some a ≡ Some b → a ≡ b
-    some_kind a b same = cc
+    module_is_none kind (ap has_module (same_Some kind (any_kind m) (sym is ∙ part.0)) ∙ any_has_module m)
 part_is_sink plain state seat kind short (Sink sink failed) fed is inner part = raw_is_one kind (rw is at part.0)
 part_is_sink plain state seat kind short Outlet fed is inner part = absurd (cc)
 part_is_sink plain state seat kind short (Ended whole) fed is inner part = module_is_none kind (rw is at part)

@@ -6,7 +6,7 @@ use Rattle.std.proofs.lemmas.Option.{same_Some}
 use Rattle.up_model.proofs.Members.{passing_pipe}
 use Rattle.up_model.specs.Ends.{is_source}
 use Rattle.up_model.specs.Inputs.{ends_at_source, passes_at}
-use Rattle.up_model.specs.Outcomes.{own_outcome, source_outcome}
+use Rattle.up_model.specs.Outcomes.{is_cause, own_outcome, source_outcome}
 use Rattle.up_model.specs.Plans.{is_fed}
 use Rattle.up_model.specs.declared.form.SourceForm.{SourceForm}
 use Rattle.up_model.specs.declared.form.SourceForm.TheVariants.{Raw}
@@ -18,7 +18,7 @@ use Rattle.up_model.specs.declared.pipe.Pipe.{Pipe}
 use Rattle.up_outside.specs.States.{SourceState}
 use Rattle.up_strand.specs.History.{History}
 use Rattle.up_strand.specs.StrandCalls.{is_done, is_output}
-use Rattle.up_strand.specs.Strands.{EndsRightly, IntakeStands, ended_at_fault, wants_in}
+use Rattle.up_strand.specs.Strands.{EndsRightly, IntakeStands, IsBehindLane, ended_at_fault, wants_in}
 use Rattle.up_strand.specs.declared.intake.Intake.{Intake}
 use Rattle.up_strand.specs.declared.intake.Intake.TheVariants.{FromSource, FromLane}
 use Rattle.up_strand.specs.declared.strand.Strand.{Strand}
@@ -47,9 +47,18 @@ ended_by_itself : (path : List ℕ) (block limit : ℕ) (rest : Option (List ℕ
 ended_by_itself path block limit rest h Whole long ends = ap Some (within_limit block limit h.read ends.0)
 ended_by_itself path block limit rest h ReadFault long ends = refl
 ended_by_itself path block limit rest h WriteFault long ends = absurd ends
-ended_by_itself path block limit rest h (TooLong most) long ends = ap Some (past_limit block limit h.read ends.1 ∙ ap TooLong (sym ends.0))
+ended_by_itself path block limit rest h (TooLong most) long ends = ap Some (past_limit block limit h.read ends.2 ∙ ap TooLong (sym ends.1))
 ended_by_itself path block limit rest h Broken long ends = absurd ends
 ended_by_itself path block limit rest h NoMemory long ends = absurd (let no = sym long ∙ ends.0 in cc)
+
+-- a head behind a lane is no source
+no_source : (h : History) (pipe : Pipe) → IsBehindLane h → slice_get h.pipes h.head ≡ Some pipe → is_source pipe.kind ≡ true → ⊥
+no_source h pipe behind there source_is =
+    let own = passing_pipe is_fed h.pipes h.head behind.fed in
+    let same : own.0 ≡ pipe = same_Some own.0 pipe (sym own.1 ∙ there) in
+    let fed : not (is_source pipe.kind) ≡ true = ap (λ (p : Pipe). not (is_source p.kind)) (sym same) ∙ own.2 in
+    let no : false ≡ true = sym (ap not source_is) ∙ fed in
+    cc
 
 module _ {S : Type 0} (reads : S → SourceState) where
   pub source_ended : (intake : Intake S) (h : History) (pipe : Pipe) (outcome : Outcome) → IntakeStands reads intake h → h.short ≡ false → slice_get h.pipes h.head ≡ Some pipe
@@ -61,30 +70,41 @@ module _ {S : Type 0} (reads : S → SourceState) where
       ap (λ (k : Kind). own_outcome k (ended_at_fault h.ended) h.read) kind
       ∙ ap (λ (o : Option Outcome). own_outcome (kinds.Source reading.path (Raw block) limit) (ended_at_fault o) h.read) ended
       ∙ ended_by_itself reading.path block limit (reads source).left h outcome long ends
-  source_ended FromLane h pipe outcome behind long there source_is ended =
-      let own = passing_pipe is_fed h.pipes h.head behind.fed in
-      let same : own.0 ≡ pipe = same_Some own.0 pipe (sym own.1 ∙ there) in
-      let fed : not (is_source pipe.kind) ≡ true = ap (λ (p : Pipe). not (is_source p.kind)) (sym same) ∙ own.2 in
-      absurd (let no : false ≡ true = sym (ap not source_is) ∙ fed in cc)
+  source_ended FromLane h pipe outcome behind long there source_is ended = absurd (no_source h pipe behind there source_is)
 
   -- so many bytes of a source were read at most, and none past its limit where a read failed
   pub few_read : (limit : ℕ) (rest : Option (List ℕ)) (h : History) (ended : Option Outcome) → EndsRightly limit rest h ended → length h.read ≤ limit + 1
   few_read limit rest h None ends = omega (arith, ends.1)
   few_read limit rest h (Some Whole) ends = omega (arith, ends.0)
-  few_read limit rest h (Some ReadFault) ends = omega (arith, ends)
+  few_read limit rest h (Some ReadFault) ends = omega (arith, ends.1)
   few_read limit rest h (Some WriteFault) ends = absurd ends
-  few_read limit rest h (Some (TooLong most)) ends = omega (arith, ends.1)
+  few_read limit rest h (Some (TooLong most)) ends = omega (arith, ends.2)
   few_read limit rest h (Some Broken) ends = absurd ends
   few_read limit rest h (Some NoMemory) ends = ends.1
 
   fewer_read : (limit : ℕ) (rest : Option (List ℕ)) (h : History) (ended : Option Outcome) → ended_at_fault ended ≡ true → EndsRightly limit rest h ended → length h.read ≤ limit
   fewer_read limit rest h None fault ends = absurd (cc)
   fewer_read limit rest h (Some Whole) fault ends = absurd (cc)
-  fewer_read limit rest h (Some ReadFault) fault ends = ends
+  fewer_read limit rest h (Some ReadFault) fault ends = ends.1
   fewer_read limit rest h (Some WriteFault) fault ends = absurd (cc)
   fewer_read limit rest h (Some (TooLong most)) fault ends = absurd (cc)
   fewer_read limit rest h (Some Broken) fault ends = absurd (cc)
   fewer_read limit rest h (Some NoMemory) fault ends = absurd (cc)
+
+  -- where a source ended by a cause of its own, memory hadn't run out
+  long_at_cause : (limit : ℕ) (rest : Option (List ℕ)) (h : History) (outcome : Outcome) → is_cause outcome ≡ true → EndsRightly limit rest h (Some outcome) → h.short ≡ false
+  long_at_cause limit rest h Whole cause ends = absurd (cc)
+  long_at_cause limit rest h ReadFault cause ends = ends.0
+  long_at_cause limit rest h WriteFault cause ends = absurd ends
+  long_at_cause limit rest h (TooLong most) cause ends = ends.0
+  long_at_cause limit rest h Broken cause ends = absurd (cc)
+  long_at_cause limit rest h NoMemory cause ends = absurd (cc)
+
+  pub long_of_head : (intake : Intake S) (h : History) (pipe : Pipe) (outcome : Outcome) → IntakeStands reads intake h
+      → slice_get h.pipes h.head ≡ Some pipe → is_source pipe.kind ≡ true → h.ended ≡ Some outcome → is_cause outcome ≡ true → h.short ≡ false
+  long_of_head (FromSource source block limit left) h pipe outcome reading there source_is ended cause =
+      long_at_cause limit (reads source).left h outcome cause (subst (EndsRightly limit (reads source).left h) ended reading.ends)
+  long_of_head FromLane h pipe outcome behind there source_is ended cause = absurd (no_source h pipe behind there source_is)
 
   -- the bounds of the source of the head are those of its intake
   pub ends_within : (intake : Intake S) (h : History) (pipe : Pipe) (path : List ℕ) (form : SourceForm) (limit : ℕ) → IntakeStands reads intake h
@@ -95,11 +115,7 @@ module _ {S : Type 0} (reads : S → SourceState) where
       let kinds_same : kinds.Source reading.path (Raw block) bound ≡ kinds.Source path form limit = sym reading.kind ∙ ap (λ (p : Pipe). p.kind) same ∙ kind in
       let bounds : bound ≡ limit = ap limit_of kinds_same in
       ((reads source).left, subst (λ (l : ℕ). EndsRightly l (reads source).left h h.ended) bounds reading.ends)
-  ends_within FromLane h pipe path form limit behind there kind =
-      let own = passing_pipe is_fed h.pipes h.head behind.fed in
-      let same : own.0 ≡ pipe = same_Some own.0 pipe (sym own.1 ∙ there) in
-      let fed : not (is_source pipe.kind) ≡ true = ap (λ (p : Pipe). not (is_source p.kind)) (sym same) ∙ own.2 in
-      absurd (let no : false ≡ true = sym (ap (λ k. not (is_source k)) kind) ∙ fed in cc)
+  ends_within FromLane h pipe path form limit behind there kind = absurd (no_source h pipe behind there (ap is_source kind))
 
   pub few_read_of_head : (intake : Intake S) (h : History) (pipe : Pipe) (path : List ℕ) (form : SourceForm) (limit : ℕ) → IntakeStands reads intake h
       → slice_get h.pipes h.head ≡ Some pipe → pipe.kind ≡ kinds.Source path form limit → length h.read ≤ limit + 1

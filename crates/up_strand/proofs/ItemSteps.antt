@@ -12,11 +12,11 @@ use Rattle.up_strand.proofs.ReadSteps.{fed_more, fed_still, same_first}
 use Rattle.up_queue.specs.declared.end_kind.EndKind.{EndKind}
 use Rattle.up_queue.specs.declared.item.Item.{Item}
 use Rattle.up_queue.specs.declared.item.Item.TheVariants.{Packet, End}
-use Rattle.up_strand.proofs.StrandSteps.{goes_on, looked_as, none_is_ready, stepped_on, tree_is}
+use Rattle.up_strand.proofs.StrandSteps.{goes_on, looked_as, none_is_ready, stepped_on, tree_going}
 use Rattle.up_strand.specs.History.{History, head_flow, carried_by}
-use Rattle.up_strand.specs.Steps.{OnceLooked, TreeIs, TreeTook, taken_where}
+use Rattle.up_strand.specs.Steps.{IsGoing, OnceLooked, TreeIs, TreeTook, taken_where}
 use Rattle.up_strand.specs.StrandCalls.{SteppedItem, end_in, is_done, is_output, packets_in}
-use Rattle.up_strand.specs.Strands.{IsBehindLane, IsEndOfLane, StandsFor, StandsForSome, first_ready, has_failed_at, want_of}
+use Rattle.up_strand.specs.Strands.{IsBehindLane, IsEndOfLane, StandsFor, StandsForSome, StrandFits, first_ready, has_failed_at, want_of}
 use Rattle.up_strand.specs.declared.intake.Intake.{Intake}
 use Rattle.up_strand.specs.declared.intake.Intake.TheVariants.{FromSource, FromLane}
 use Rattle.up_strand.specs.declared.strand.Strand.{Strand}
@@ -98,8 +98,9 @@ module _ {P S K : Type 0} (plain : P → PlainPacket) (reads : S → SourceState
   pub old_goes_on : old.ended ≡ None
   old_goes_on = goes_on old (ap is_output wants) (ap is_done wants)
 
-  pub old_tree_is : StandsForSome plain reads writes old → TreeIs old.tree None
-  old_tree_is stood = tree_is plain reads writes old stood.0 stood.1 (sym stood.1.ended.ended ∙ old_goes_on)
+  pub old_is_going : {F : Type 0} (fits : P → F → Type 0) (family : F) → StandsForSome plain reads writes old → StrandFits old fits family
+      → IsGoing plain writes fits family old.tree
+  old_is_going fits family stood fit = tree_going plain reads writes fits family old stood.0 stood.1 (sym stood.1.ended.ended ∙ old_goes_on) fit
 
   module _ (item : Item P) (now : Strand P S K) (ended : Option Outcome) (fed : Flow) (same : now ≡ record old { tree = now.tree; ended = ended })
       (ends : IsEndOfLane ended) (is_end : ended ≡ end_in item) (took : TreeTook plain writes old.tree now.tree fed) (is : TreeIs now.tree ended) where

@@ -32,5 +32,4 @@ pub mod StrandSteps
 pub mod Sweeping
 pub mod Told
 pub mod Trees
-pub mod Trials
 pub mod Writes

@@ -1,23 +1,19 @@
 -- What a strand put out, counted and wrote is what the graph says of the packets that its head had.
-use Rattle.std.proofs.Common.{◌≡◌, ◌≢◌, ℕ, zero, suc, ◌<◌, ◌==◌, List, length, get_or, Bool, true, false, not, ◌&&◌, cond, is_some, Option, Some, None, slice_get, refl, sym, ap, ap₂, ◌∙◌, subst, arith, inl, inr, ◌⊎◌}
+use Rattle.std.proofs.Common.{◌≡◌, ◌≢◌, ℕ, zero, suc, ◌<◌, List, length, get_or, Bool, true, false, not, ◌&&◌, cond, is_some, Option, Some, None, slice_get, refl, sym, ap, ap₂, ◌∙◌, subst, arith, inl, inr, ◌⊎◌}
 use Rattle.std.specs.Prelude.{MatchOption, option_and_then, unwrap_or}
-use Rattle.std.specs.List.{position_or_len}
-use Rattle.std.specs.Option.{IsSome, option_map_or}
-use Rattle.std.proofs.lemmas.Bool.{eqb-true}
+use Rattle.std.specs.Option.{IsSome}
 use Rattle.std.proofs.lemmas.Bool.Decides.{eqb_tells, leb_tells}
 use Rattle.std.proofs.lemmas.List.{get_or_append_left, length-append}
 use Rattle.std.proofs.lemmas.List.Elements.{Contains-get_or}
-use Rattle.std.proofs.lemmas.List.Sums.{position_or_len_is}
-use Rattle.std.proofs.lemmas.Option.{slice_get-get_or, same_Some}
+use Rattle.std.proofs.lemmas.Option.{same_Some}
 use Rattle.std.specs.List.{Contains}
 use Rattle.up_base.specs.Lists.{IsPrefix}
-use Rattle.up_model.proofs.Members.{kept_passes}
 use Rattle.up_model.proofs.Steps.{step_of}
 use Rattle.up_model.specs.Chain.{IsRawSink}
 use Rattle.up_model.specs.Inputs.{PipeTest, reached, reached_within, places}
 use Rattle.up_model.specs.Meaning.{Doing, wholly, so_far, is_fed_by, flow_by, input_by, taken_by, bytes_by, pipe_work}
 use Rattle.up_model.specs.Packet.{Flow, joined}
-use Rattle.up_model.specs.Plans.{head_of, is_head, is_in_strand, outlets_of, strand_of}
+use Rattle.up_model.specs.Plans.{head_of, is_head, outlets_of, strand_of}
 use Rattle.up_model.specs.Tallies.{past_own_probe, stopped, uncaught}
 use Rattle.up_model.specs.declared.catch_set.CatchSet.{CatchSet}
 use Rattle.up_model.specs.declared.outcome.Outcome.{Outcome}
@@ -26,22 +22,20 @@ use Rattle.up_model.specs.declared.pipe.Pipe.{Pipe}
 use Rattle.up_model.specs.declared.plain_packet.PlainPacket.{PlainPacket}
 use Rattle.up_outside.specs.Counts.{CountsWhere}
 use Rattle.up_outside.specs.States.{SourceState, SinkState}
+use Rattle.up_plan.proofs.OneStrand.{in_strand}
 use Rattle.up_strand.proofs.Reaching as reaching
+use Rattle.up_strand.proofs.Told.{failed_is}
 use Rattle.up_strand.specs.History.{History, doing, head_flow, sums_at, to_head}
 use Rattle.up_strand.specs.Nodes.{is_outlet, is_whole, node_work, takes_from}
 use Rattle.up_strand.specs.OfGraph.{AreFedAs, IsReached, IsReachedInPart}
 use Rattle.up_strand.specs.Stand.{AreDone, IsUnfinished}
 use Rattle.up_strand.specs.StrandCalls.{SinkEnds}
-use Rattle.up_strand.specs.Strands.{StandsFor, has_failed, node_of, place_of}
+use Rattle.up_strand.specs.Strands.{StandsFor, has_failed, place_of}
 use Rattle.up_strand.specs.Tree.{AllAt}
 use Rattle.up_strand.specs.Writing.{Receives}
 use Rattle.up_strand.specs.declared.node.Node.{Node}
 use Rattle.up_strand.specs.declared.node.Part.TheVariants.{Sink}
 use Rattle.up_strand.specs.declared.strand.Strand.{Strand}
-
-own_head : (own : Option ℕ) (head : ℕ) → option_map_or (λ place. place == head) own false ≡ true → own ≡ Some head
-own_head None head is = absurd (cc)
-own_head (Some own) head is = ap Some (eqb-true own head is)
 
 some_here : (passes : Bool) (place : ℕ) (further : Option ℕ) → (passes ≡ true) ⊎ IsSome further → IsSome (cond passes (Some place) further)
 some_here true place further some = refl
@@ -72,11 +66,6 @@ given_other head fed place other_than = elim (eqb_tells place head) [
   | inl same ↦ absurd (other_than same.1)
   | inr other ↦ rw other.0 refl
 ]
-
--- the head is reached from each pipe of its strand
-pub head_of_member : (pipes : List Pipe) (head place : ℕ) → Contains (strand_of pipes head) place → head_of pipes place ≡ Some head
-head_of_member pipes head place kept =
-    own_head (head_of pipes place) head (kept_passes (λ at. is_in_strand pipes head at) (places pipes) place kept)
 
 -- and so is what is fed to it
 pub fed_at_head : (pipes : List Pipe) (head place : ℕ) (flow : Flow) → head_of pipes place ≡ Some head
@@ -121,7 +110,7 @@ module _ {P S K : Type 0} (plain : P → PlainPacket) (reads : S → SourceState
   -- the head is reached from each pipe
   reaches_head : (i : ℕ) → i < length own_places → head_of h.pipes (place i) ≡ Some h.head
   reaches_head i within =
-      head_of_member h.pipes h.head (place i) (subst (Contains own_places) (sym (place_of_pipe i within)) (Contains-get_or own_places i 0 within))
+      in_strand h.pipes h.head (place i) (subst (Contains own_places) (sym (place_of_pipe i within)) (Contains-get_or own_places i 0 within))
 
   -- a node behind another isn't the head
   pub behind_head : (i k : ℕ) (d : Node P K) → i < length nodes → takes_from (get_or nodes i d).input k ≡ true → place i ≢ h.head
@@ -245,26 +234,6 @@ module _ {P S K : Type 0} (plain : P → PlainPacket) (reads : S → SourceState
       let same : caught ≡ own.pipe.caught = same_Some caught own.pipe.caught (sym there ∙ stands.built.caught i own.pipe within own.there) in
       ap (uncaught caught) ((comes long).reached.sums i d node.0 node.1) ∙ ap (λ c. uncaught c sums) same ∙ sym (ap (λ o. past_own_probe o sums) own.there)
 
-  -- the node of its place
-  pub node_of_place : (i : ℕ) → i < length strand.places.items → node_of strand (place_of strand i) ≡ Some i
-  node_of_place i within =
-      let first : position_or_len (λ other. other == place i) strand.places.items ≡ i =
-      position_or_len_is (λ other. other == place i) strand.places.items i 0 (omega (arith, within))
-      (λ k before. elim (eqb_tells (place k) (place i)) [
-        | inl same ↦ absurd (let is = stands.built.apart k i (omega (arith, within, before)) within same.1 in omega (arith, is, before))
-        | inr other ↦ other.0
-      ])
-      (λ inside. elim (eqb_tells (place i) (place i)) [ inl same ↦ same.0 | inr other ↦ absurd (other.1 refl) ]) in
-      rw first (elim (leb_tells (suc i) (length strand.places.items)) [ inl inside ↦ rw inside.0 refl | inr past ↦ absurd (omega (arith, within, past.1)) ])
-
-  -- whether the sink at a node failed
-  pub failed_is : (i : ℕ) (d : Node P K) → i < length strand.tree.nodes.items → h.failed (place_of strand i) ≡ has_failed (get_or strand.tree.nodes.items i d).part
-  failed_is i d within =
-      let count = stands.built.count in
-      let node = node_of_place i (omega (arith, count, within)) in
-      stands.writing.failed (place i) ∙ ap (λ (o : Option ℕ). option_map_or (λ (node : Node P K). has_failed node.part) (option_and_then (slice_get nodes) o) false) node
-      ∙ ap (λ (o : Option (Node P K)). option_map_or (λ (node : Node P K). has_failed node.part) o false) (slice_get-get_or nodes i d within)
-
   -- what a sink was given
   pub sink_ends : (i : ℕ) (d : Node P K) (sink : K) (failed : Bool) (pipe : Pipe) → i < length strand.tree.nodes.items
       → (get_or strand.tree.nodes.items i d).part ≡ Sink sink failed → slice_get h.pipes (place_of strand i) ≡ Some pipe
@@ -277,7 +246,7 @@ module _ {P S K : Type 0} (plain : P → PlainPacket) (reads : S → SourceState
       let start = stands.writing.starts i d sink failed within is in
       let received : Receives (h.sinks (place i)) (writes sink) works took = subst (λ (s : SinkState). Receives s (writes sink) works took) start part.1 in
       let faults : CountsWhere failed (h.sinks (place i)).faults (writes sink).faults = subst (λ (s : SinkState). CountsWhere failed s.faults (writes sink).faults) start part.2 in
-      let has : h.failed (place i) ≡ failed = failed_is i d within ∙ ap has_failed is in
+      let has : h.failed (place i) ≡ failed = failed_is plain reads writes strand h stands i d within ∙ ap has_failed is in
       record {
         put = received.put;
         appended = received.appended;

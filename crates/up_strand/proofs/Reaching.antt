@@ -3,6 +3,7 @@ use Rattle.std.proofs.Common.{◌≡◌, ℕ, zero, suc, ◌+◌, ◌<◌, List,
 use Rattle.std.specs.Prelude.{MatchOption, unwrap_or}
 use Rattle.std.specs.Io.KnownBytes.{Appends}
 use Rattle.std.proofs.lemmas.Bool.Decides.{eqb_tells}
+use Rattle.std.proofs.lemmas.Option.{same_Some}
 use Rattle.up_base.specs.Lists.{IsPrefix}
 use Rattle.up_model.proofs.EveryKind.{lawful}
 use Rattle.up_model.proofs.GraphFlows.{written_grows, so_far-wholly}
@@ -59,14 +60,6 @@ done_as false place (kinds.Source path form limit) fed taken is = rw is refl
 done_as true place (kinds.Source path form limit) fed taken is = rw is refl
 done_as false place kind fed taken is = rw is refl
 done_as true place kind fed taken is = rw is refl
-
-some_or : Pipe → Option Pipe → Pipe
-some_or p None = p
-some_or p (Some q) = q
-
-some_same : (x y : Pipe) → Some x ≡ Some y → x ≡ y
-unfolding some_or
-some_same x y is = ap (λ (o : Option Pipe). some_or x o) is
 
 -- a prefix of a prefix
 pub prefix_on : {X : Type 0} (a b c : List X) → IsPrefix a b → IsPrefix b c → IsPrefix a c
@@ -187,7 +180,7 @@ module _ {P K : Type 0} (plain : P → PlainPacket) (state : K → SinkState) wh
         → joined (past.fed i) ≡ bytes_by (doing whole) pipes given (places i) pipe
     bytes_are i d pipe within inner raw there =
         let node = of.each i d within inner in
-        let same_pipe : node.pipe ≡ pipe = some_same node.pipe pipe (sym node.there ∙ there) in
+        let same_pipe : node.pipe ≡ pipe = same_Some node.pipe pipe (sym node.there ∙ there) in
         let kind : (past.seats i).kind ≡ Some node.pipe.kind = node.kind ∙ ap Some (same_kind (selected pipes (places i)) node.pipe.kind) in
         let fed = fed_by i d (get_or nodes i d).input node.pipe within refl inner node.input_of node.there (λ k inside less other. gone_is (rank k + 1) k d (omega arith) inside other) in
         raw_bytes (past.seats i).kind node.pipe.kind (past.fed i) kind raw ∙ ap (written_of node.pipe.kind) fed
@@ -267,7 +260,7 @@ module _ {P K : Type 0} (plain : P → PlainPacket) (state : K → SinkState) wh
     bytes_first i d pipe within inner raw there =
         let node = of.each i d within inner in
         let bytes = bytes_by does pipes given (places i) node.pipe in
-        let same_pipe : node.pipe ≡ pipe = some_same node.pipe pipe (sym node.there ∙ there) in
+        let same_pipe : node.pipe ≡ pipe = same_Some node.pipe pipe (sym node.there ∙ there) in
         let kind : (past.seats i).kind ≡ Some node.pipe.kind = node.kind ∙ ap Some (same_kind (selected pipes (places i)) node.pipe.kind) in
         let fed = fed_first i d (get_or nodes i d).input node.pipe within refl inner node.input_of node.there (λ k inside less other. gone_first (rank k + 1) k d (omega arith) inside other) in
         subst (λ (p : Pipe). IsPrefix (joined (past.fed i)) (bytes_by does pipes given (places i) p)) same_pipe

@@ -16,11 +16,11 @@ use Rattle.up_outside.specs.Counts.{CountsWhere}
 use Rattle.up_outside.specs.States.{SourceState, SinkState}
 use Rattle.up_shape.specs.Stores.{StoreState, Stays}
 use Rattle.up_strand.proofs.ReadSteps.{block_more, end_more, fault_more, flow_now, go_on, last_more, long_more, reading_on, same_first}
-use Rattle.up_strand.proofs.StrandSteps.{goes_on, looked_as, stepped_on, tree_is}
+use Rattle.up_strand.proofs.StrandSteps.{goes_on, looked_as, stepped_on, tree_going}
 use Rattle.up_strand.specs.Gifts.{NodesFit}
 use Rattle.up_strand.specs.History.{History, head_flow, carried_by}
 use Rattle.up_strand.specs.Reads.{ReadsPacket, is_read_fault as is_fault_of}
-use Rattle.up_strand.specs.Steps.{OnceLooked, TreeIs, TreeTook, ended_where}
+use Rattle.up_strand.specs.Steps.{IsGoing, OnceLooked, TreeIs, TreeTook, ended_where}
 use Rattle.up_strand.specs.StrandCalls.{SteppedRead, is_done, is_output}
 use Rattle.up_strand.specs.Strands.{EndsRightly, IsReading, StandsFor, StandsForSome, StrandFits, first_ready, has_failed_at, ended_at_fault, want_of}
 use Rattle.up_strand.specs.declared.intake.Intake.TheVariants.{FromSource}
@@ -64,8 +64,10 @@ module _ {P S K : Type 0} (plain : P → PlainPacket) (reads : S → SourceState
   pub read_goes_on : old.ended ≡ None
   read_goes_on = goes_on old not_output not_done
 
-  pub read_tree_is : StandsForSome plain reads writes old → TreeIs old.tree None
-  read_tree_is stood = tree_is plain reads writes old stood.0 stood.1 (sym stood.1.ended.ended ∙ read_goes_on)
+  pub read_is_going : {F : Type 0} (fits : P → F → Type 0) (family middle : F) → middle ≡ family → StandsForSome plain reads writes old
+      → StrandFits old fits family → IsGoing plain writes fits middle old.tree
+  read_is_going fits family middle same stood fit =
+      rw same (tree_going plain reads writes fits family old stood.0 stood.1 (sym stood.1.ended.ended ∙ read_goes_on) fit)
 
   module _ (source : S) (block limit left : ℕ) (from : old.intake ≡ FromSource source block limit left) where
     -- what it read before
@@ -276,8 +278,8 @@ module _ {P S K : Type 0} (plain : P → PlainPacket) (reads : S → SourceState
       -- a fault
       pub fault_taken : ReadsPacket plain block left (reads source) (reads source_now) nexts.Fault → before.drawn < middle.drawn
           → now ≡ record old { tree = now.tree; intake = FromSource source_now block limit left; ended = Some outcomes.ReadFault }
-          → TreeTook plain writes old.tree now.tree [] → TreeIs now.tree (Some outcomes.ReadFault) → Steps
-      fault_taken read drew same took is =
+          → TreeTook plain writes old.tree now.tree [] → TreeIs now.tree (Some outcomes.ReadFault) → now.tree.short ≡ old.tree.short → Steps
+      fault_taken read drew same took is short =
           let more = stays.more in
           read_taken source_now left nexts.Fault read now (Some outcomes.ReadFault) [] same took is before after
           refl (omega arith) (λ other. omega (arith, drew, more)) (omega (arith, drew, more))
@@ -290,7 +292,7 @@ module _ {P S K : Type 0} (plain : P → PlainPacket) (reads : S → SourceState
           let flow = still h stood (full_blocks block (h.read ++ read.taken))
           (fault_more h (reads source) (reads source_now) block limit left reading going read.taken read.took [] (Some outcomes.ReadFault) false (λ place. false) read.faults read.are.0) in
           record {
-            ends = λ failed. omega (arith, sum, fits, long);
+            ends = λ failed. (short ∙ tree_long h stood, omega (arith, sum, fits, long));
             rest = λ wrong. absurd (cc);
             even = λ wrong. absurd (cc);
             moves = λ wrong. absurd (cc);
@@ -301,8 +303,8 @@ module _ {P S K : Type 0} (plain : P → PlainPacket) (reads : S → SourceState
       -- a byte past the limit
       pub long_taken : ReadsPacket plain block left (reads source) (reads source_now) nexts.TooLong → before.drawn < middle.drawn
           → now ≡ record old { tree = now.tree; intake = FromSource source_now block limit left; ended = Some (outcomes.TooLong limit) }
-          → TreeTook plain writes old.tree now.tree [] → TreeIs now.tree (Some (outcomes.TooLong limit)) → Steps
-      long_taken read drew same took is =
+          → TreeTook plain writes old.tree now.tree [] → TreeIs now.tree (Some (outcomes.TooLong limit)) → now.tree.short ≡ old.tree.short → Steps
+      long_taken read drew same took is short =
           let more = stays.more in
           read_taken source_now left nexts.TooLong read now (Some (outcomes.TooLong limit)) [] same took is before after
           refl (omega arith) (λ other. omega (arith, drew, more)) (omega (arith, drew, more))
@@ -315,7 +317,7 @@ module _ {P S K : Type 0} (plain : P → PlainPacket) (reads : S → SourceState
           let flow = still h stood (full_blocks block (take limit (h.read ++ read.taken)))
           (long_more h (reads source) (reads source_now) block limit left reading going read.taken read.took [] None false (λ place. false) read.faults over read.in_block) in
           record {
-            ends = λ failed. (refl, omega (arith, sum, over, long));
+            ends = λ failed. (short ∙ tree_long h stood, refl, omega (arith, sum, over, long));
             rest = λ wrong. absurd (cc);
             even = λ wrong. absurd (cc);
             moves = λ wrong. absurd (cc);

@@ -5,7 +5,7 @@ use Rattle.std.specs.Option.{is_some, option_map_or}
 use Rattle.std.proofs.lemmas.Bool.{lt-ltb}
 use Rattle.std.proofs.lemmas.Bool.Decides.{eqb_tells}
 use Rattle.std.proofs.lemmas.List.{get_or-set_same, get_or-set_other, length-set}
-use Rattle.std.proofs.lemmas.Option.{slice_get-get_or, slice_get_cases}
+use Rattle.std.proofs.lemmas.Option.{same_Some, slice_get-get_or, slice_get_cases}
 use Rattle.up_model.specs.Plans.{strand_of}
 use Rattle.up_model.specs.declared.outcome.Outcome.{Outcome}
 use Rattle.up_model.specs.declared.plain_packet.PlainPacket.{PlainPacket}
@@ -13,15 +13,16 @@ use Rattle.up_outside.specs.States.{SourceState, SinkState}
 use Rattle.up_queue.specs.declared.end_kind.EndKind.{EndKind}
 use Rattle.up_queue.specs.declared.item.Item.{Item}
 use Rattle.up_queue.specs.declared.item.Item.TheVariants.{Packet, End}
-use Rattle.up_strand.proofs.Found.{before_first, first_found, nothing_kept}
+use Rattle.up_strand.proofs.Found.{before_first, first_found, nothing_kept, want_there}
 use Rattle.up_strand.proofs.Moving.{AreSameButOut, moved_stands}
 use Rattle.up_strand.specs.History.{History}
 use Rattle.up_strand.specs.Nodes.{is_outlet}
 use Rattle.up_strand.specs.StrandCalls.{ItemFits, gave_out, lane_given}
-use Rattle.up_strand.specs.Strands.{IsSent, StandsFor, StrandFits, has_item, kept_at, place_of}
+use Rattle.up_strand.specs.Strands.{IsSent, StandsFor, StrandFits, has_item, kept_at, place_of, want_of}
 use Rattle.up_strand.specs.TakenOut.{PutBack}
 use Rattle.up_strand.specs.declared.node.Node.{Node}
 use Rattle.up_strand.specs.declared.strand.Strand.{Strand}
+use Rattle.up_strand.specs.declared.want.Want.TheVariants.{Output}
 
 pub if_here : {X : Type 0} (m n : ℕ) (a b : X) → m ≡ n → (if m == n then a else b) ≡ a
 if_here m n a b is = elim (eqb_tells m n) [ inl same ↦ rw same.0 refl | inr other ↦ absurd (other.1 is) ]
@@ -29,7 +30,7 @@ if_here m n a b is = elim (eqb_tells m n) [ inl same ↦ rw same.0 refl | inr ot
 pub if_other : {X : Type 0} (m n : ℕ) (a b : X) → m ≢ n → (if m == n then a else b) ≡ b
 if_other m n a b isnt = elim (eqb_tells m n) [ inl same ↦ absurd (isnt same.1) | inr other ↦ rw other.0 refl ]
 
-some_node : (a b : ℕ) → Some a ≡ Some b → a ≡ b
+pub some_node : (a b : ℕ) → Some a ≡ Some b → a ≡ b
 some_node a b same = cc
 
 pub true_false : (b : Bool) → b ≡ true → b ≡ false → ⊥
@@ -80,7 +81,7 @@ module _ {P S K : Type 0} where
     nodes = old.tree.nodes.items
 
     lane_is : place_of old place ≡ lane
-    lane_is = some_node (place_of old place) lane (ap (λ (l : Option ℕ). option_map (place_of old) l) (sym last) ∙ given)
+    lane_is = same_Some (place_of old place) lane (ap (λ (l : Option ℕ). option_map (place_of old) l) (sym last) ∙ given)
 
     module _ (item : Item P) (stands : StandsFor plain reads writes old (gave_out plain h lane item)) where
       can : (place ≤ old.ready) × (place < length nodes) × (nat_le (length (strand_of (gave_out plain h lane item).pipes (gave_out plain h lane item).head)) place ≡ true)
@@ -214,6 +215,21 @@ module _ {P S K : Type 0} where
     came_back mid (Packet p) stands put = subst (λ (s : Strand P S K). StandsFor plain reads writes (record s { last = None; ready = place }) h) (sym put) (packet_back p stands)
     came_back mid (End kind) stands put =
         subst (λ (s : Strand P S K). StandsFor plain reads writes s h) (sym (ap (λ (s : Strand P S K). record s { last = None; ready = place }) put.1)) (end_back kind stands mid put.0)
+
+    same_nodes : (mid : Strand P S K) (item : Item P) → PutBack place old mid item
+        → (length mid.tree.nodes.items ≡ length nodes) × (place_of mid place ≡ place_of old place)
+    same_nodes mid (Packet p) put = (ap (λ (s : Strand P S K). length s.tree.nodes.items) put, ap (λ (s : Strand P S K). place_of s place) put)
+    same_nodes mid (End kind) put = (ap (λ (s : Strand P S K). length s.tree.nodes.items) put.1, ap (λ (s : Strand P S K). place_of s place) put.1)
+
+    -- it waits for its lane again
+    pub waits_again : (mid : Strand P S K) (item : Item P) → StandsFor plain reads writes old (gave_out plain h lane item) → PutBack place old mid item
+        → want_of (record mid { last = None; ready = place }) ≡ Output lane
+    waits_again mid item stands put =
+        let inside = (can item stands).1 in
+        let same = same_nodes mid item put in
+        let count = same.0 in
+        want_there (record mid { last = None; ready = place }) (came_back mid item stands put).sent.ready (omega (arith, inside, count))
+        ∙ ap Output (same.1 ∙ lane_is)
 
   pub fits_back : {F : Type 0} (fits : P → F → Type 0) (family : F) (old mid : Strand P S K) (place : ℕ) (item : Item P) → PutBack place old mid item
       → StrandFits old fits family → ItemFits fits family item → StrandFits (record mid { last = None; ready = place }) fits family

@@ -4,7 +4,7 @@ use Rattle.std.specs.Prelude.{nat_le, nat_lt}
 use Rattle.std.specs.Option.{is_some, option_map_or, option_to_list}
 use Rattle.std.proofs.lemmas.Bool.Decides.{eqb_tells}
 use Rattle.std.proofs.lemmas.List.{get_or-set_same, get_or-set_other, length-set}
-use Rattle.std.proofs.lemmas.Option.{slice_get-get_or, slice_get_cases}
+use Rattle.std.proofs.lemmas.Option.{same_Some, slice_get-get_or, slice_get_cases}
 use Rattle.std.proofs.Math.Seq.{get_or-append_seam}
 use Rattle.up_model.specs.Packet.{Flow, IsLegal}
 use Rattle.up_model.specs.Plans.{strand_of}
@@ -192,16 +192,13 @@ module _ {P S K : Type 0} (plain : P → PlainPacket) (reads : S → SourceState
       ready = ready;
       kept = λ some. absurd (true_false (is_some given.kept) some (ap is_some none));
       last = λ other is.
-          let same : place ≡ other = some_number place other (sym last ∙ is) in
+          let same : place ≡ other = same_Some place other (sym last ∙ is) in
           let count = alike.count in (
             omega (arith, same, behind),
             omega (arith, same, inside, count),
             subst (λ (n : ℕ). nat_le (length (strand_of h.pipes h.head)) n ≡ true) same (sym (stands.built.outlets place some_one inside) ∙ outlet_here some_one),
           );
     }
-      where
-        some_number : (a b : ℕ) → Some a ≡ Some b → a ≡ b
-        some_number a b same = cc
 
   -- what was sent for the lane and has left its node, but for the packet that came back
   gone_so : stands.past.gone place ≡ h.sent lane ++ map plain (option_to_list old.kept)

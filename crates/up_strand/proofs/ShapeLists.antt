@@ -1,12 +1,12 @@
 -- Lists of places, and of the strands of a plan.
-use Rattle.std.proofs.Common.{◌≡◌, ℕ, zero, suc, ◌+◌, ◌<◌, List, [], ◌∷◌, ◌++◌, length, map, take, get_or, Some, slice_get, refl, ap, sym, ◌∙◌, subst, arith}
-use Rattle.std.specs.List.{Contains, range_with_len}
+use Rattle.std.proofs.Common.{◌≡◌, Bool, ℕ, zero, suc, ◌+◌, ◌<◌, List, [], ◌∷◌, ◌++◌, length, map, take, get_or, Some, slice_get, refl, ap, sym, ◌∙◌, subst, arith}
+use Rattle.std.specs.List.{Contains, filter, range_with_len}
 use Rattle.std.specs.List.Sorted.{IsPermutation, IsNonDecreasingBy}
-use Rattle.std.proofs.lemmas.List.Elements.{Contains-get_or}
+use Rattle.std.proofs.lemmas.List.Elements.{Contains-get_or, filter-append}
 use Rattle.std.proofs.lemmas.List.FromFn.{length-range_with_len, get_or-range_with_len}
 use Rattle.std.proofs.lemmas.List.Sorted.{Contains-permutation, IsPermutation-sym}
-use Rattle.std.proofs.lemmas.List.{take_more, map-append, get_or-map, get_or_default, length-map}
-use Rattle.std.proofs.lemmas.Option.{get_or_from_slice_get, slice_get_within}
+use Rattle.std.proofs.lemmas.List.{take_more, map-append, get_or-map, get_or_default, length-append, length-map}
+use Rattle.std.proofs.lemmas.Option.{get_or_from_slice_get, same_Some, slice_get_within}
 use Rattle.up_model.specs.Plans.{heads, strand_of}
 use Rattle.up_model.specs.declared.pipe.Pipe.{Pipe}
 use Rattle.up_plan.specs.Plan.{plan_strand}
@@ -18,6 +18,13 @@ pub take_next : {X : Type 0} (xs : List X) (i : ℕ) (x : X) → slice_get xs i 
 take_next xs i x there =
     take_more xs i x (slice_get_within xs i x there) ∙ ap (λ y. take i xs ++ y ∷ []) (get_or_from_slice_get xs i x x there)
 
+-- how many pass a test among one item more of a list
+pub one_more_passes : {X : Type 0} (p : X → Bool) (xs : List X) (i : ℕ) (x : X) → slice_get xs i ≡ Some x
+    → length (filter p (take (i + 1) xs)) ≡ length (filter p (take i xs)) + length (filter p (x ∷ []))
+one_more_passes p xs i x there =
+    ap (λ ys. length (filter p ys)) (take_next xs i x there) ∙ ap length (filter-append p (take i xs) (x ∷ []))
+    ∙ length-append (filter p (take i xs)) (filter p (x ∷ []))
+
 pub map_next : {X Y : Type 0} (f : X → Y) (xs : List X) (i : ℕ) (x : X) → slice_get xs i ≡ Some x
     → map f (take (i + 1) xs) ≡ map f (take i xs) ++ f x ∷ []
 map_next f xs i x there = ap (map f) (take_next xs i x there) ∙ map-append f (take i xs) (x ∷ [])
@@ -25,10 +32,7 @@ map_next f xs i x there = ap (map f) (take_next xs i x there) ∙ map-append f (
 -- an item of a mapped list comes from one
 mapped_from : {X Y : Type 0} (f : X → Y) (xs : List X) (i : ℕ) (y : Y) → slice_get (map f xs) i ≡ Some y → (x : X) × (f x ≡ y)
 mapped_from f [] i y is = absurd (cc)
-mapped_from f (x ∷ xs) zero y is = (x, some_same (f x) y is)
-  where
-    some_same : {Z : Type 0} (a b : Z) → Some a ≡ Some b → a ≡ b
-    some_same a b is = cc
+mapped_from f (x ∷ xs) zero y is = (x, same_Some (f x) y is)
 mapped_from f (x ∷ xs) (suc i) y is = mapped_from f xs i y is
 
 -- a strand of a plan with this head has the pipes of its strand

@@ -1,5 +1,5 @@
 -- The lanes that a strand fills: the head's own isn't among them, and those of its pipes aren't either.
-use Rattle.std.proofs.Common.{◌≡◌, ◌≢◌, ℕ, zero, suc, ◌+◌, ◌-◌, ◌<◌, ◌≤◌, ◌==◌, cond, ltb, List, [], ◌∷◌, ◌++◌, length, get_or, Option, Some, None, slice_get, Bool, true, false, ◌||◌, ◌&&◌, not, refl, ap, sym, ◌∙◌, subst, arith, inl, inr, eq-eqb}
+use Rattle.std.proofs.Common.{◌≡◌, ◌≢◌, ℕ, zero, suc, ◌+◌, ◌-◌, ◌<◌, ◌≤◌, ◌==◌, cond, ltb, List, ◌++◌, length, get_or, Option, Some, None, slice_get, Bool, true, false, ◌||◌, ◌&&◌, not, refl, ap, sym, ◌∙◌, subst, arith, inl, inr, eq-eqb}
 use Rattle.std.specs.List.{AllPairs, Contains, filter, position, position_or_len}
 use Rattle.std.specs.Option.{is_some, option_map_or}
 use Rattle.std.specs.Prelude.{option_and_then}
@@ -11,7 +11,7 @@ use Rattle.std.proofs.lemmas.List.Kept.{AllPairs-filter}
 use Rattle.std.proofs.lemmas.List.Quantifiers.{position-Some}
 use Rattle.std.proofs.lemmas.List.Sums.{fails_before_first}
 use Rattle.std.proofs.lemmas.List.{get_or_append_left, get_or-append_right, length-append}
-use Rattle.std.proofs.lemmas.Option.{slice_get_cases, slice_get_within}
+use Rattle.std.proofs.lemmas.Option.{same_Some, slice_get_cases, slice_get_within}
 use Rattle.up_model.proofs.Members.{kept_passes, kept_was_there, passing_pipe}
 use Rattle.up_model.proofs.Steps.{step_of, step_more}
 use Rattle.up_model.proofs.WellFormed.{comes_to_source, is_pipe}
@@ -20,32 +20,13 @@ use Rattle.up_model.specs.Inputs.{ends_at_source, input_at, passes_at, places, r
 use Rattle.up_model.specs.Plans.{changes_worker, head_of, heads, is_fed, is_head, is_in_strand, lanes, outlets_of, strand_of, takes_of}
 use Rattle.up_model.specs.WellFormed.{IsWellFormed}
 use Rattle.up_model.specs.declared.pipe.Pipe.{Pipe}
-use Rattle.up_plan.proofs.OneStrand.{own_head, strand_has}
+use Rattle.up_plan.proofs.Lanes.{filter_twice}
+use Rattle.up_plan.proofs.OneStrand.{in_strand, own_head, same_head, strand_has}
 use Rattle.up_strand.specs.Shapes.{input_among}
-
-some_same : {X : Type 0} (a b : X) → Some a ≡ Some b → a ≡ b
-some_same a b is = cc
 
 not_true : (a b : Bool) → (a || b) ≡ false → a ≡ false
 not_true true b is = absurd (cc)
 not_true false b is = refl
-
--- two filters are one
-filter_both : (p q r : ℕ → Bool) → ((x : ℕ) → r x ≡ (q x && p x)) → (xs : List ℕ) → filter r xs ≡ filter p (filter q xs)
-filter_both p q r both [] = refl
-filter_both p q r both (x ∷ xs) =
-    let rest = filter_both p q r both xs in
-    elim (cases_Bool (q x)) [
-      | inl kept ↦
-          let is : r x ≡ p x = both x ∙ ap (λ b. b && p x) kept in
-          elim (cases_Bool (p x)) [
-            | inl also ↦ rw (kept, is, also) (ap (λ l. x ∷ l) rest)
-            | inr other ↦ rw (kept, is, other) rest
-          ]
-      | inr left ↦
-          let is : r x ≡ false = both x ∙ ap (λ b. b && p x) left in
-          rw (left, is) rest
-    ]
 
 none_before : (n len : ℕ) → cond (ltb n len) (Some n) None ≡ None → len ≤ n
 none_before n len none = elim (cases_lt n len) [
@@ -75,16 +56,6 @@ found_place own place k d found =
     let at = position-Some (λ other. other == place) own k d found in (at.0, (Decides-eqb (get_or own k d) place).0 at.1)
 
 module _ (pipes : List Pipe) where
-  pub in_strand : (head place : ℕ) → is_in_strand pipes head place ≡ true → head_of pipes place ≡ Some head
-  in_strand head place is = by_head (head_of pipes place) refl is
-    where
-      by_head : (own : Option ℕ) → head_of pipes place ≡ own → option_map_or (λ own. own == head) own false ≡ true → head_of pipes place ≡ Some head
-      by_head None same is = absurd (cc)
-      by_head (Some own) same is = same ∙ ap Some ((Decides-eqb own head).0 is)
-
-  pub stands_in : (head place : ℕ) → Contains (strand_of pipes head) place → head_of pipes place ≡ Some head
-  stands_in head place there = in_strand head place (kept_passes (is_in_strand pipes head) (places pipes) place there)
-
   module _ (well : IsWellFormed pipes) where
     -- a source takes from none
     source_takes_none : (place input : ℕ) (pipe : Pipe) → slice_get pipes place ≡ Some pipe → is_source pipe.kind ≡ true → pipe.input ≡ Some input → ⊥
@@ -94,7 +65,7 @@ module _ (pipes : List Pipe) where
         cc
 
     -- the way from a place to a source leads through its head
-    through_head : (steps more place head source : ℕ) → reached_within steps is_head pipes place ≡ Some head
+    pub through_head : (steps more place head source : ℕ) → reached_within steps is_head pipes place ≡ Some head
         → reached_within more ends_at_source pipes place ≡ Some source → reached_within more ends_at_source pipes head ≡ Some source
     through_head zero more place head source is comes = absurd (cc)
     through_head (suc steps) zero place head source is comes = absurd (cc)
@@ -104,14 +75,14 @@ module _ (pipes : List Pipe) where
           | inl here ↦ subst (λ (p : ℕ). reached_within (suc more) ends_at_source pipes p ≡ Some source) here.1 comes
           | inr further ↦
               let on = step_of ends_at_source pipes more place source comes in
-              let same : step.pipe ≡ on.pipe = some_same step.pipe on.pipe (sym step.at ∙ on.at) in
+              let same : step.pipe ≡ on.pipe = same_Some step.pipe on.pipe (sym step.at ∙ on.at) in
               elim on.way [
                 | inl source_here ↦
                     let fails : is_source step.pipe.kind ≡ false = not_true (is_source step.pipe.kind) (changes_worker pipes step.pipe) further.0 in
                     let passes : is_source step.pipe.kind ≡ true = ap (λ (p : Pipe). is_source p.kind) same ∙ source_here.0 in
                     absurd (let wrong : true ≡ false = sym passes ∙ fails in cc)
                 | inr beyond ↦
-                    let input : further.1 ≡ beyond.1 = some_same further.1 beyond.1 (sym further.2 ∙ ap (λ (p : Pipe). p.input) same ∙ beyond.2) in
+                    let input : further.1 ≡ beyond.1 = same_Some further.1 beyond.1 (sym further.2 ∙ ap (λ (p : Pipe). p.input) same ∙ beyond.2) in
                     let rest : reached_within more ends_at_source pipes further.1 ≡ Some source =
                     subst (λ (p : ℕ). reached_within more ends_at_source pipes p ≡ Some source) (sym input) beyond.3 in
                     step_more ends_at_source pipes more head source (through_head steps more further.1 head source further.3 rest)
@@ -128,7 +99,7 @@ module _ (pipes : List Pipe) where
         elim step.way [
           | inl here ↦ source_takes_none head input step.pipe step.at here.0 of
           | inr further ↦
-              let same : further.1 ≡ input = some_same further.1 input (sym further.2 ∙ of) in
+              let same : further.1 ≡ input = same_Some further.1 input (sym further.2 ∙ of) in
               let rest : reached_within steps ends_at_source pipes input ≡ Some source =
               subst (λ (p : ℕ). reached_within steps ends_at_source pipes p ≡ Some source) same further.3 in
               no_circle steps head input source takes own (through_head (length pipes) steps input head source own rest)
@@ -146,7 +117,7 @@ module _ (pipes : List Pipe) where
     has_input : (head place : ℕ) (input : Option ℕ) → option_map_or (is_in_strand pipes head) input false ≡ true
         → (at : ℕ) × (input ≡ Some at) × (head_of pipes at ≡ Some head)
     has_input head place None is = absurd (cc)
-    has_input head place (Some at) is = (at, refl, in_strand head at is)
+    has_input head place (Some at) is = (at, refl, same_head (head_of pipes at) head is)
 
     -- whether a lane is filled by a pipe of a strand, by the places of its pipes
     filled_by : (head : ℕ) (input : Option ℕ) (source : Bool) → (source ≡ true → (at : ℕ) → input ≡ Some at → ⊥)
@@ -157,7 +128,7 @@ module _ (pipes : List Pipe) where
     filled_by head (Some at) true none = absurd (none refl at refl)
     filled_by head (Some at) false none = elim (cases_Bool (is_in_strand pipes head at)) [
       | inl within ↦
-          let there = strand_has pipes head at (in_strand head at within) in
+          let there = strand_has pipes head at (same_head (head_of pipes at) head within) in
           let found = place_found (strand_of pipes head) at there in
           rw (found.1, within) refl
       | inr without ↦ by_answer (position (λ other. other == at) (strand_of pipes head)) refl without
@@ -182,7 +153,7 @@ module _ (pipes : List Pipe) where
     -- the lanes that a strand fills are those of the heads that take from its pipes
     pub outlets_are : (head : ℕ) → filter (λ place. is_some (input_among pipes (strand_of pipes head) place)) (heads pipes) ≡ outlets_of pipes head
     outlets_are head =
-        filter_both (passes_at (takes_of head) pipes) (passes_at is_fed pipes) (λ place. is_some (input_among pipes (strand_of pipes head) place)) (filled_is head) (heads pipes)
+        sym (filter_twice (passes_at is_fed pipes) (passes_at (takes_of head) pipes) (λ place. is_some (input_among pipes (strand_of pipes head) place)) (filled_is head) (heads pipes))
 
     -- it takes from a pipe of the strand, and its own head is itself
     pub record IsOutlet (head place : ℕ) : Type 0 where
@@ -210,7 +181,7 @@ module _ (pipes : List Pipe) where
 
     outlet_is_outside : (head place : ℕ) → Contains (outlets_of pipes head) place → Contains (strand_of pipes head) place → ⊥
     outlet_is_outside head place there within =
-        outlet_is_other head place there (some_same place head (sym (is_outlet head place there).own ∙ stands_in head place within))
+        outlet_is_other head place there (same_Some place head (sym (is_outlet head place there).own ∙ in_strand pipes head place within))
 
     -- places in file order
     rising_places : AllPairs (λ x y. x < y) (places pipes)

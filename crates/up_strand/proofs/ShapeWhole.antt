@@ -6,20 +6,17 @@ use Rattle.std.proofs.lemmas.Bool.{cases_lt, ne_eqb}
 use Rattle.std.proofs.lemmas.Bool.Decides.{eqb_tells}
 use Rattle.std.proofs.lemmas.List.Elements.{Contains-get_or}
 use Rattle.std.proofs.lemmas.List.{get_or_append_left, get_or-append_right, get_or_default, get_or-map, length-append, length-map}
-use Rattle.std.proofs.lemmas.Option.{slice_get-get_or}
+use Rattle.std.proofs.lemmas.Option.{same_Some, slice_get-get_or}
 use Rattle.up_model.specs.Inputs.{input_at}
 use Rattle.up_model.specs.Plans.{head_of, heads, outlets_of, strand_of}
 use Rattle.up_model.specs.WellFormed.{IsWellFormed}
 use Rattle.up_model.specs.declared.pipe.Pipe.{Pipe}
-use Rattle.up_plan.proofs.OneStrand.{own_head, strand_has, strand_is_joined}
+use Rattle.up_plan.proofs.OneStrand.{in_strand, own_head, strand_has, strand_is_joined}
 use Rattle.up_strand.proofs.ShapeDepths.{depth_at_head, depth_rises}
-use Rattle.up_strand.proofs.ShapeOutlets.{apart, found_place, is_outlet, outlet_is_other, outlets_are, place_found, stands_in}
+use Rattle.up_strand.proofs.ShapeOutlets.{apart, found_place, is_outlet, outlet_is_other, outlets_are, place_found}
 use Rattle.up_strand.specs.Shapes.{AreTakersIn, IsInputIn, IsShapeOf, depth_of, input_among, input_in, node_depth, node_input, place_in}
 use Rattle.up_strand.specs.Tree.{IsOrder}
 use Rattle.up_strand.specs.declared.shape.Shape.{Shape}
-
-some_same : (a b : ℕ) → Some a ≡ Some b → a ≡ b
-some_same a b is = cc
 
 module _ (pipes : List Pipe) (well : IsWellFormed pipes) (head : ℕ) where
   abbrev own : List ℕ
@@ -87,7 +84,7 @@ module _ (pipes : List Pipe) (well : IsWellFormed pipes) (head : ℕ) where
           | inl same ↦ inl (first_of i same.1 inner)
           | inr other ↦
               let joined = strand_is_joined pipes head (place i) there other.1 in
-              inr (fed_by i joined.input other.1 joined.takes (stands_in pipes head joined.input joined.within))
+              inr (fed_by i joined.input other.1 joined.takes (in_strand pipes head joined.input joined.within))
         ]
     | inr beyond ↦
         let end : i - length own < length ends = omega (arith, within, beyond, length-append own ends) in
@@ -118,7 +115,7 @@ module _ (pipes : List Pipe) (well : IsWellFormed pipes) (head : ℕ) where
   rises : (i k : ℕ) → i < length nodes → input i ≡ Some k → rank k < rank i
   rises i k within is = elim (each_node i within) [
     | inl first ↦ absurd (let wrong : None ≡ Some k = sym first.is ∙ is in cc)
-    | inr fed ↦ subst (λ (n : ℕ). rank n < rank i) (some_same fed.node k (sym fed.is ∙ is)) (rank_rises i within fed)
+    | inr fed ↦ subst (λ (n : ℕ). rank n < rank i) (same_Some fed.node k (sym fed.is ∙ is)) (rank_rises i within fed)
   ]
 
   module _ (there : Contains (heads pipes) head) (order : List ℕ) (sweeps : IsOrder rank (length nodes) order) where

@@ -19,9 +19,9 @@ use Rattle.up_strand.specs.AnyModule.{any_kind, has_module}
 use Rattle.up_strand.specs.History.{History, head_flow}
 use Rattle.up_strand.specs.Nodes.{PartStands, Seat, is_outlet, takes_from}
 use Rattle.up_strand.specs.Stand.{Past, Stand, StandWith, Went, AreAsPlaced}
-use Rattle.up_strand.specs.Steps.{OnceLooked, TreeIs, looked_from}
+use Rattle.up_strand.specs.Steps.{IsGoing, OnceLooked, TreeIs, looked_from}
 use Rattle.up_strand.specs.StrandCalls.{is_done, is_output}
-use Rattle.up_strand.specs.Strands.{IntakeStands, IsAsEnded, IsBuilt, IsSent, IsWriting, StandsFor, first_ready, has_failed_at, kept_at, place_of, want_of}
+use Rattle.up_strand.specs.Strands.{IntakeStands, IsAsEnded, IsBuilt, IsSent, IsWriting, StandsFor, StrandFits, first_ready, has_failed_at, kept_at, place_of, want_of}
 use Rattle.up_strand.specs.declared.intake.Intake.{Intake}
 use Rattle.up_strand.specs.declared.node.Node.{Node}
 use Rattle.up_strand.specs.declared.node.Part.{Part}
@@ -248,6 +248,18 @@ tree_is plain reads writes strand h stood going =
       fallen = λ short. was.fallen (sym was.short ∙ short);
       owed = λ other. was.owed (λ is. let wrong : None ≡ Some outcomes.Whole = sym going ∙ is in absurd (cc));
     }
+
+-- its tree goes on then
+pub tree_going : {P S K F : Type 0} (plain : P → PlainPacket) (reads : S → SourceState) (writes : K → SinkState) (fits : P → F → Type 0) (family : F)
+    (strand : Strand P S K) (h : History) → StandsFor plain reads writes strand h → h.ended ≡ None → StrandFits strand fits family
+    → IsGoing plain writes fits family strand.tree
+tree_going plain reads writes fits family strand h stood going fit = record {
+  some = stood.built.some;
+  swept = stood.built.swept;
+  is = tree_is plain reads writes strand h stood going;
+  stand = (stood.past, stood.stand);
+  fitting = fit.nodes;
+}
 
 pub looked_as : {P S K : Type 0} (Holds : Strand P S K → Type 0) (now other : Strand P S K) → now ≡ other → OnceLooked other Holds → OnceLooked now Holds
 looked_as {P} {S} {K} Holds now other is holds = subst (λ (s : Strand P S K). OnceLooked s Holds) (sym is) holds

@@ -7,7 +7,7 @@ use Rattle.std.proofs.lemmas.Bool.{lt-ltb}
 use Rattle.std.proofs.lemmas.Bool.Decides.{eqb_tells, leb_tells}
 use Rattle.std.proofs.lemmas.List.{get_or_append_left, get_or_default}
 use Rattle.std.proofs.lemmas.List.Sums.{position_or_len_is}
-use Rattle.std.proofs.lemmas.Option.{slice_get-get_or}
+use Rattle.std.proofs.lemmas.Option.{same_Some, slice_get-get_or}
 use Rattle.up_model.specs.Chain.{IsRawSink}
 use Rattle.up_model.specs.Ends.{is_source}
 use Rattle.up_model.specs.Packet.{Flow}
@@ -54,10 +54,7 @@ module _ {K : Type 0} (plain_short : Bool) (ended : Option Outcome) where
       → outcome_of_part part plain_short ended ≡ outcome_by kind (has_failed part) plain_short ended
   by_part plain state seat kind short Head fed is inner part = by_source kind false plain_short ended (rw is at part)
   by_part plain state seat kind short (PipePart m) fed is inner part =
-      by_module kind false plain_short ended (ap has_module (some_kind kind (any_kind m) (sym is ∙ part.0)) ∙ any_has_module m)
-    where
-      some_kind : (a b : Kind) → Some a ≡ Some b → a ≡ b
-      some_kind a b same = cc
+      by_module kind false plain_short ended (ap has_module (same_Some kind (any_kind m) (sym is ∙ part.0)) ∙ any_has_module m)
   by_part plain state seat kind short (Sink sink failed) fed is inner part = by_sink kind sink failed (rw is at part.0)
   by_part plain state seat kind short Outlet fed is inner part = absurd (cc)
   by_part plain state seat kind short (Ended whole) fed is inner part = by_module kind false plain_short ended (rw is at part)

@@ -12,7 +12,7 @@ use Rattle.up_strand.proofs.Passing.{stand_on}
 use Rattle.up_strand.proofs.Sweeping.{swept_on}
 use Rattle.up_strand.specs.Nodes.{HasGivenUp, IsAsPlaced, is_pipe, is_whole}
 use Rattle.up_strand.specs.Stand.{AreAsPlaced, AreDone, AreSame, AreSettled, AreSound, AreTaking, StandForSome}
-use Rattle.up_strand.specs.Steps.{NodesAre, TreeTook, ended_where}
+use Rattle.up_strand.specs.Steps.{IsGoing, NodesAre, TreeTook, WentOn, ended_where}
 use Rattle.up_strand.specs.Tree.{AllAt, IsSwept, Pairwise}
 use Rattle.up_strand.specs.declared.node.Node.{Node}
 use Rattle.up_strand.specs.declared.tree.Tree.{Tree}
@@ -129,3 +129,14 @@ module _ {P K : Type 0} (plain : P → PlainPacket) (state : K → SinkState) wh
 
   pub tree_stands : (a b : Tree P K) (more : Flow) → TreeTook plain state a b more → StandForSome plain state a.nodes.items → StandForSome plain state b.nodes.items
   tree_stands a b more took stand = let went = took.nodes.stand stand.0 stand.1 in (_, went.stand)
+
+  -- a tree that went on and whose flow goes on
+  pub still_going : {F : Type 0} (fits : P → F → Type 0) (family middle : F) (a b : Tree P K) (more : Flow) → middle ≡ family
+      → IsGoing plain state fits family a → WentOn plain state fits family a b more None → IsGoing plain state fits middle b
+  still_going fits family middle a b more same going went = record {
+    some = rw went.took.order going.some;
+    swept = tree_swept a b more went.took going.swept;
+    is = went.is;
+    stand = tree_stands a b more went.took going.stand;
+    fitting = rw same went.fitting;
+  }

@@ -6,6 +6,7 @@ pub mod Making
 pub mod Nodes
 pub mod OfGraph
 pub mod Reads
+pub mod Rooms
 pub mod Shapes
 pub mod Stand
 pub mod Steps

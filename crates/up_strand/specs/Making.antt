@@ -10,6 +10,7 @@ use Rattle.up_model.specs.declared.pipe.Pipe.{Pipe}
 use Rattle.up_model.specs.declared.plain_packet.PlainPacket.{PlainPacket}
 use Rattle.up_outside.specs.States.{SinkState}
 use Rattle.up_strand.specs.Nodes.{IsSound, NodeStands, Seat, is_outlet}
+use Rattle.up_strand.specs.Rooms.{HasOnlyRoom}
 use Rattle.up_strand.specs.Shapes.{IsShapeOf, input_in}
 use Rattle.up_strand.specs.StrandCalls.{no_sink}
 use Rattle.up_strand.specs.Strands.{has_failed}
@@ -87,6 +88,4 @@ pub record HasRoomFor {P K : Type 0} (pipes : List Pipe) (head : ℕ) (rooms : R
   pub caught : rooms.caught.items ≡ map (caught_at pipes) (strand_of pipes head)
   pub closings : length rooms.closed.items ≡ length rooms.shape.places.items
   pub open_yet : (i : ℕ) → slice_index_or rooms.closed.items i false ≡ false
-  pub outcomes : rooms.outcomes ≡ record { room = length (strand_of pipes head); items = [] }
-  pub tallies : rooms.tallies ≡ record { room = length (strand_of pipes head); items = [] }
-  pub sinks : rooms.sinks ≡ record { room = length (sinks_of pipes head); items = [] }
+  pub told : HasOnlyRoom (length (strand_of pipes head)) (length (sinks_of pipes head)) rooms.told

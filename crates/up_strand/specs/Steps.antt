@@ -1,15 +1,16 @@
 -- What the parts of a step of a strand do.
-use Rattle.std.specs.Prelude.{◌≡◌, ◌≢◌, ◌⊎◌, ℕ, List, [], ◌∷◌, length, Bool, true, false, is_some, Option, Some, None}
+use Rattle.std.specs.Prelude.{◌≡◌, ◌≢◌, ◌⊎◌, ℕ, ◌<◌, List, [], ◌∷◌, length, Bool, true, false, is_some, Option, Some, None}
 use Rattle.std.specs.Option.{option_map_or}
 use Rattle.up_model.specs.Packet.{Flow}
 use Rattle.up_model.specs.declared.outcome.Outcome.{Outcome}
 use Rattle.up_model.specs.declared.outcome.Outcome.TheVariants as outcomes
 use Rattle.up_model.specs.declared.plain_packet.PlainPacket.{PlainPacket}
 use Rattle.up_outside.specs.States.{SinkState}
+use Rattle.up_strand.specs.Gifts.{NodesFit}
 use Rattle.up_strand.specs.Nodes.{is_pipe, is_whole}
-use Rattle.up_strand.specs.Stand.{StandWith, AreAsPlaced, AreDone, AreSettled, AreSound, IsUnfinished}
+use Rattle.up_strand.specs.Stand.{StandForSome, StandWith, AreAsPlaced, AreDone, AreSettled, AreSound, IsUnfinished}
 use Rattle.up_strand.specs.Strands.{first_ready}
-use Rattle.up_strand.specs.Tree.{AllAt}
+use Rattle.up_strand.specs.Tree.{AllAt, IsSwept}
 use Rattle.up_strand.specs.declared.node.Node.{Node}
 use Rattle.up_strand.specs.declared.strand.Strand.{Strand}
 use Rattle.up_strand.specs.declared.tree.Tree.{Tree}
@@ -42,6 +43,23 @@ module _ {P K : Type 0} (plain : P → PlainPacket) (state : K → SinkState) wh
     pub nodes : NodesTook old.nodes.items new.nodes.items more
     pub order : new.order ≡ old.order
     pub stays : old.short ≡ true → new.short ≡ true
+
+module _ {P K F : Type 0} (plain : P → PlainPacket) (state : K → SinkState)
+    (fits : P → F → Type 0) (family : F) where
+  -- the flow of the tree goes on: its nodes, which its order sweeps from its head on, stand for
+  -- something, and what waits in them is of the family
+  pub record IsGoing (tree : Tree P K) : Type 0 where
+    pub some : 0 < length tree.order.items
+    pub swept : IsSwept tree.order.items tree.nodes.items
+    pub is : TreeIs tree None
+    pub stand : StandForSome plain state tree.nodes.items
+    pub fitting : NodesFit fits family tree.nodes.items
+
+  -- it took this flow more, and its flow goes on or has ended so
+  pub record WentOn (old new : Tree P K) (more : Flow) (ended : Option Outcome) : Type 0 where
+    pub took : TreeTook plain state old new more
+    pub is : TreeIs new ended
+    pub fitting : NodesFit fits family new.nodes.items
 
 -- a packet is taken where memory didn't run out
 abbrev pub taken_where : Bool → PlainPacket → Flow

@@ -21,6 +21,7 @@ use Rattle.up_strand.specs.History.{History, head_flow, outcome_of_source, outco
 use Rattle.up_strand.specs.Nodes.{is_outlet, is_pipe, is_whole}
 use Rattle.up_strand.specs.OfGraph.{AreNodesOf}
 use Rattle.up_strand.specs.Reads.{WereRead}
+use Rattle.up_strand.specs.Rooms.{HasOnlyRoom}
 use Rattle.up_strand.specs.Stand.{Past, Stand, AreSound, AreDone, AreSettled, IsUnfinished}
 use Rattle.up_strand.specs.Tree.{AllAt, IsSwept}
 use Rattle.up_strand.specs.declared.intake.Intake.{Intake}
@@ -118,16 +119,9 @@ module _ {P S K : Type 0} (strand : Strand P S K) where
     pub closings : length strand.closed.items ≡ length strand.places.items
 
   -- the room that its end needs is there
-  pub record HasRooms (h : History) : Type 0 where
-    pub outcomes : strand.outcomes ≡ record {
-      room = length (strand_of h.pipes h.head);
-      items = [];
-    }
-    pub tallies : strand.tallies ≡ record {
-      room = length (strand_of h.pipes h.head);
-      items = [];
-    }
-    pub sinks : strand.sinks ≡ record { room = length (sinks_of h.pipes h.head); items = [] }
+  abbrev pub HasRooms : History → Type 0
+  HasRooms h =
+      HasOnlyRoom (length (strand_of h.pipes h.head)) (length (sinks_of h.pipes h.head)) strand.told
 
   -- nothing waits but for lanes; which nodes go on, by how the flow ended and whether memory ran out
   pub record IsAsEnded (h : History) : Type 0 where
@@ -189,14 +183,15 @@ ended_at_fault (Some (outcomes.TooLong limit)) = false
 ended_at_fault (Some outcomes.Broken) = false
 ended_at_fault (Some outcomes.NoMemory) = false
 
--- how much of a source was read, by how it ended: at most one byte past its limit
+-- how much of a source was read, by how it ended: at most one byte past its limit. Where a cause of
+-- its own ended it, memory hadn't run out
 abbrev pub EndsRightly : ℕ → Option (List ℕ) → History → Option Outcome → Type 0
 EndsRightly limit rest h None = (h.short ≡ false) × (length h.read ≤ limit)
 EndsRightly limit rest h (Some outcomes.Whole) = (length h.read ≤ limit) × IsAtEnd rest
-EndsRightly limit rest h (Some outcomes.ReadFault) = length h.read ≤ limit
+EndsRightly limit rest h (Some outcomes.ReadFault) = (h.short ≡ false) × (length h.read ≤ limit)
 EndsRightly limit rest h (Some outcomes.WriteFault) = ⊥
 EndsRightly limit rest h (Some (outcomes.TooLong most)) =
-    (most ≡ limit) × (length h.read ≡ limit + 1)
+    (h.short ≡ false) × (most ≡ limit) × (length h.read ≡ limit + 1)
 EndsRightly limit rest h (Some outcomes.Broken) = ⊥
 EndsRightly limit rest h (Some outcomes.NoMemory) = (h.short ≡ true) × (length h.read ≤ limit + 1)
 

@@ -1,11 +1,12 @@
 // A strand that is given up.
-ghost use Rattle.std.specs.Prelude.{◌≡◌, ◌<◌, ◌≤◌, ◌+◌, ◌++◌, ◌∷◌, [], false, true, length, IfSome, MatchOption, None};
+ghost use Rattle.std.specs.Prelude.{◌≡◌, ◌<◌, ◌≤◌, ◌+◌, ◌++◌, ◌∷◌, [], false, true, length, IfOk, MatchOption, None};
 ghost use Rattle.up_model.specs.Tallies.{uncaught};
 ghost use Rattle.up_shape.specs.Stores.{Stays};
 ghost use Rattle.up_strand.specs.Closing.{AreTold, AreWithoutSinks, HasNone, HasRoomsFor, HasSameRooms, holds_sink, outcome_at, sinks_in};
 ghost use Rattle.up_strand.specs.Gifts.{NodesFit};
 ghost use Rattle.up_strand.specs.History.{History};
 ghost use Rattle.up_strand.specs.Nodes.{NodeFits};
+ghost use Rattle.up_strand.specs.Rooms.{HasOnlyRoom};
 ghost use Rattle.up_strand.specs.StrandCalls.{Finished, SourceEnds, is_done};
 ghost use Rattle.up_strand.specs.Strands.{IntakeStands, StandsFor, StandsForSome, StrandFits, want_of};
 ghost use Rattle.up_strand.specs.Tree.{AllAt};
@@ -18,8 +19,9 @@ use crate::strand::Strand;
 use crate::strand_end::{StrandEnd, StrandParts};
 use crate::tree::Tree;
 use crate::want::Want;
+use std::alloc::Global;
 use std::mem;
-use up_base::ReservedList;
+use up_base::{NoMemory, ReservedList};
 use up_model::{CatchSet, Outcome, Tally};
 use up_outside::{Sink, Source};
 use up_shape::{LocalPacket, Module};
@@ -44,20 +46,13 @@ impl<P: LocalPacket, S: Source, K: Sink> Strand<P, S, K> {
             ready: _,
             kept,
             last: _,
-            sinks,
-            outcomes,
-            tallies,
+            mut told,
         } = self;
         let Tree {
             mut nodes,
             order: _,
             short,
         } = tree;
-        let mut told = Told {
-            outcomes,
-            tallies,
-            sinks,
-        };
         let ending = Ending { done, short, ended };
         tell_all(&mut nodes, &caught, ending, &mut told);
         if let Some(p) = kept {
@@ -120,10 +115,10 @@ impl<P: LocalPacket, K: Sink> Node<P, K> {
 }
 
 /// What is told of the pipes of a strand, and its sinks, in the order of the file.
-struct Told<K> {
-    outcomes: ReservedList<Outcome>,
-    tallies: ReservedList<Tally>,
-    sinks: ReservedList<K>,
+pub(crate) struct Told<K> {
+    pub outcomes: ReservedList<Outcome>,
+    pub tallies: ReservedList<Tally>,
+    pub sinks: ReservedList<K>,
 }
 
 /// How a strand ended.
@@ -132,6 +127,19 @@ struct Ending {
     done: bool,
     short: bool,
     ended: Option<Outcome>,
+}
+
+impl<K> Told<K> {
+    /// Room for so many pipes, of which so many are sinks.
+    pub(crate) fn with_room(alloc: Global, pipes: usize, sinks: usize) -> Result<Told<K>, NoMemory>
+        ensures { IfOk result (λ told. HasOnlyRoom pipes sinks told) }
+    {
+        Ok(Told {
+            outcomes: ReservedList::with_room(alloc, pipes)?,
+            tallies: ReservedList::with_room(alloc, pipes)?,
+            sinks: ReservedList::with_room(alloc, sinks)?,
+        })
+    }
 }
 
 impl<K: Sink> Told<K> {

@@ -1,7 +1,8 @@
 ghost use Rattle.std.specs.Prelude.{◌≡◌, [], Some, None, false};
-ghost use Rattle.up_strand.specs.declared.node.Takers.{Takers as TheTakers};
 
-use crate::{AnyModule, Node, Part, Takers, give};
+use crate::any_module::AnyModule;
+use crate::giving::give;
+use crate::node::{Node, Part, Takers};
 use std::alloc::Global;
 use std::process::Abort;
 use up_base::NoMemory;

@@ -6,7 +6,7 @@ ghost use Rattle.up_base.specs.Lists.{IsPrefix};
 ghost use Rattle.up_model.specs.Ends.{is_source};
 ghost use Rattle.up_model.specs.Inputs.{ends_at_source, passes_at, reached};
 ghost use Rattle.up_model.specs.Meaning.{is_fed_by};
-ghost use Rattle.up_model.specs.Outcomes.{own_outcome};
+ghost use Rattle.up_model.specs.Outcomes.{is_cause, own_outcome};
 ghost use Rattle.up_model.specs.Packet.{Flow};
 ghost use Rattle.up_model.specs.Plans.{is_fed, outlets_of, strand_of};
 ghost use Rattle.up_model.specs.declared.form.SourceForm.{SourceForm as TheForm};
@@ -24,6 +24,7 @@ use up_shape::LocalPacket;
 
 /// The head of a strand was fed the packets that it had; where memory ran out, the first of them. How a source ended is
 /// told by its bytes, and by whether a read failed; at most one byte past its limit was read, and none where a read failed.
+/// Where a source ended by a cause of its own, memory hadn't run out.
 pub fn a_head_is_fed_what_it_has<P: LocalPacket, S: Source, K: Sink>()
     ensures first { (strand : TheStrand P S K) (h : History)
         → StandsFor P.plain S.state K.state strand h → IsPrefix h.fed (head_flow h) }
@@ -44,6 +45,10 @@ pub fn a_head_is_fed_what_it_has<P: LocalPacket, S: Source, K: Sink>()
         → StandsFor P.plain S.state K.state strand h → slice_get h.pipes h.head ≡ Some pipe
         → pipe.kind ≡ kinds.Source path form limit → ended_at_fault h.ended ≡ true
         → length h.read ≤ limit }
+    ensures long { (strand : TheStrand P S K) (h : History) (pipe : ThePipe)
+        (outcome : TheOutcome) → StandsFor P.plain S.state K.state strand h
+        → slice_get h.pipes h.head ≡ Some pipe → is_source pipe.kind ≡ true
+        → h.ended ≡ Some outcome → is_cause outcome ≡ true → h.short ≡ false }
 {}
 
 /// What was taken out for a lane is what its head takes, where the head of this strand has the packets that it had.

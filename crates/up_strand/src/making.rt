@@ -1,5 +1,5 @@
 // A strand that is made: all room first, then the nodes.
-ghost use Rattle.std.specs.Prelude.{◌≡◌, ℕ, ◌<◌, ◌≤◌, [], map, replicate, true, false, length, drop, IfOk, IfErr, IfSome, is_some, slice_index_or, nat_le, Some, if◌then◌else◌, MatchOption};
+ghost use Rattle.std.specs.Prelude.{◌≡◌, ℕ, ◌<◌, ◌≤◌, [], map, replicate, true, false, length, drop, IfOk, IfErr, is_some, slice_index_or, nat_le, Some, if◌then◌else◌};
 ghost use Rattle.std.specs.List.{Contains, filter};
 ghost use Rattle.std.specs.Option.{option_map};
 ghost use Rattle.std.specs.Vec.{vec_capacity};
@@ -14,9 +14,9 @@ ghost use Rattle.up_strand.specs.Making.{CanBegin, HasBegun, HasRoomFor, caught_
 ghost use Rattle.up_strand.specs.Nodes.{PartStands, Seat, has_ended, is_outlet};
 ghost use Rattle.up_strand.specs.StrandCalls.{begun, sinks_told};
 ghost use Rattle.up_strand.specs.Strands.{IntakeStands, StandsFor, StrandFits, has_failed};
-ghost use Rattle.up_strand.specs.Tree.{AllAt};
 
 use crate::any_module::AnyModule;
+use crate::closing::Told;
 use crate::intake::Intake;
 use crate::node::{Node, Part};
 use crate::shape::Shape;
@@ -24,8 +24,8 @@ use crate::strand::Strand;
 use crate::strand_end::{SinkList, StrandParts};
 use crate::tree::Tree;
 use std::alloc::Global;
-use up_base::{NoMemory, NoRoom, ReservedList};
-use up_model::{CatchSet, Graph, Kind, Outcome, PipeList, SourceForm, Tally};
+use up_base::{NoMemory, NoRoom};
+use up_model::{CatchSet, Graph, Kind, PipeList, SourceForm};
 use up_outside::{Sink, Source};
 use up_plan::Plan;
 use up_shape::LocalPacket;
@@ -69,9 +69,7 @@ struct Rooms<P, K> {
     nodes: Vec<Node<P, K>>,
     caught: Vec<CatchSet>,
     closed: Vec<bool>,
-    sinks: ReservedList<K>,
-    outcomes: ReservedList<Outcome>,
-    tallies: ReservedList<Tally>,
+    told: Told<K>,
 }
 
 /// Whether a sink stands at a place.
@@ -134,19 +132,15 @@ impl<P: LocalPacket, K: Sink> Rooms<P, K> {
         let own = &shape.places[..shape.pipes];
         let caught = catches_of(alloc, pipes, own)?;
         let closed = none_closed(alloc, shape.places.len())?;
-        let outcomes = ReservedList::with_room(alloc, shape.pipes)?;
-        let tallies = ReservedList::with_room(alloc, shape.pipes)?;
-        let sink_room = sink_count(pipes, own);
+        let sinks = sink_count(pipes, own);
         let nodes = Vec::with_capacity(alloc, shape.places.len())?;
-        match ReservedList::with_room(alloc, sink_room) {
-            Ok(sinks) => Ok(Rooms {
+        match Told::with_room(alloc, shape.pipes, sinks) {
+            Ok(told) => Ok(Rooms {
                 shape,
                 nodes,
                 caught,
                 closed,
-                sinks,
-                outcomes,
-                tallies,
+                told,
             }),
             Err(NoMemory) => {
                 nodes.destroy_empty();
@@ -179,9 +173,7 @@ impl<P: LocalPacket, K: Sink> Rooms<P, K> {
             nodes,
             caught,
             closed,
-            sinks: sink_room,
-            outcomes,
-            tallies,
+            told,
         } = self;
         let nodes = nodes_of(alloc, &graph.pipes, &shape, nodes, sinks);
         let Shape {
@@ -205,9 +197,7 @@ impl<P: LocalPacket, K: Sink> Rooms<P, K> {
             ended: None,
             kept: None,
             last: None,
-            sinks: sink_room,
-            outcomes,
-            tallies,
+            told,
         }
     }
 }

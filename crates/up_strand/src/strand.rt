@@ -1,26 +1,23 @@
-ghost use Rattle.std.specs.Prelude.{◌≡◌, ◌<◌, ℕ, [], ◌∷◌, length, true, false, None, Some};
+ghost use Rattle.std.specs.Prelude.{◌≡◌, ◌≢◌, ◌<◌, ℕ, [], ◌∷◌, length, true, false, None, Some};
 ghost use Rattle.std.specs.List.{Contains};
 ghost use Rattle.up_model.specs.Packet.{IsLegal};
 ghost use Rattle.up_model.specs.Plans.{strand_of};
 ghost use Rattle.up_model.specs.declared.outcome.Outcome.TheVariants as outcomes;
 ghost use Rattle.up_shape.specs.Stores.{Stays};
-ghost use Rattle.up_strand.specs.Gifts.{NodesFit};
 ghost use Rattle.up_strand.specs.History.{History, told_at};
-ghost use Rattle.up_strand.specs.Stand.{StandForSome};
-ghost use Rattle.up_strand.specs.Steps.{OnceLooked, TreeIs, TreeTook, ended_where, taken_where};
+ghost use Rattle.up_strand.specs.Steps.{IsGoing, OnceLooked, WentOn, ended_where, taken_where};
 ghost use Rattle.up_strand.specs.StrandCalls.{CameOut, IsLegalItem, ItemFits, SteppedItem, SteppedRead, WentOut, gave_out, lane_given};
 ghost use Rattle.up_strand.specs.Strands.{StandsFor, StandsForSome, StrandFits, node_of, want_of};
-ghost use Rattle.up_strand.specs.Tree.{IsSwept};
 ghost use Rattle.up_strand.specs.declared.want.Want.TheVariants as wants;
 
+use crate::closing::Told;
 use crate::intake::Intake;
 use crate::outcomes::outcome_of;
 use crate::source_packet::{Next, read_packet};
 use crate::strand_end::StrandEnd;
 use crate::tree::Tree;
 use crate::want::Want;
-use up_base::ReservedList;
-use up_model::{CatchSet, Outcome, Tally};
+use up_model::{CatchSet, Outcome};
 use up_outside::{Sink, Source};
 use up_queue::{EndKind, Item};
 use up_shape::LocalPacket;
@@ -44,9 +41,8 @@ pub struct Strand<P, S, K> {
     pub(crate) kept: Option<P>,
     /// The node at which the last item was taken out, until the next step.
     pub(crate) last: Option<usize>,
-    pub(crate) sinks: ReservedList<K>,
-    pub(crate) outcomes: ReservedList<Outcome>,
-    pub(crate) tallies: ReservedList<Tally>,
+    /// Room for what its end tells.
+    pub(crate) told: Told<K>,
 }
 
 impl<P: LocalPacket, S: Source, K: Sink> Strand<P, S, K> {
@@ -94,6 +90,8 @@ impl<P: LocalPacket, S: Source, K: Sink> Strand<P, S, K> {
         ensures back { (h : History) (lane : ℕ) → lane_given self.old ≡ Some lane
             → StandsFor P.plain S.state K.state self.old (gave_out P.plain h lane item)
             → h.closed lane ≡ false → StandsFor P.plain S.state K.state self.new h }
+        ensures waits { (lane : ℕ) → lane_given self.old ≡ Some lane
+            → want_of self.new ≡ wants.Output lane }
         ensures family { (f : P.Store.Family) → StrandFits self.old P.fits f
             → ItemFits P.fits f item → StrandFits self.new P.fits f }
     {
@@ -198,20 +196,13 @@ impl<P: LocalPacket, S: Source, K: Sink> Strand<P, S, K> {
 
     /// Feeds the next packet of a flow that goes on.
     fn feed(&mut self, p: P, s: &mut P::Store)
-        requires some { 0 < length self.old.tree.order.items }
-        requires swept { IsSwept self.old.tree.order.items self.old.tree.nodes.items }
-        requires is { TreeIs self.old.tree None }
+        requires going { IsGoing P.plain K.state P.fits (P.Store.state s.old).family
+            self.old.tree }
         requires legal { IsLegal (P.plain p) }
         requires packet { P.fits p (P.Store.state s.old).family }
-        requires stand { StandForSome P.plain K.state self.old.tree.nodes.items }
-        requires family { NodesFit P.fits (P.Store.state s.old).family
-            self.old.tree.nodes.items }
-        ensures took { TreeTook P.plain K.state self.old.tree self.new.tree
-            (taken_where self.old.tree.short (P.plain p)) }
-        ensures is { TreeIs self.new.tree None }
+        ensures went { WentOn P.plain K.state P.fits (P.Store.state s.old).family
+            self.old.tree self.new.tree (taken_where self.old.tree.short (P.plain p)) None }
         ensures same { self.new ≡ record self.old { tree = self.new.tree } }
-        ensures family { NodesFit P.fits (P.Store.state s.old).family
-            self.new.tree.nodes.items }
         ensures store { Stays (P.Store.state s.old) (P.Store.state s.new) }
     {
         self.tree.feed(p, s);
@@ -219,23 +210,17 @@ impl<P: LocalPacket, S: Source, K: Sink> Strand<P, S, K> {
 
     /// Feeds a whole block. Where memory runs out the flow ends.
     fn feed_block(&mut self, p: P, s: &mut P::Store)
-        requires some { 0 < length self.old.tree.order.items }
         requires long { self.old.tree.short ≡ false }
-        requires swept { IsSwept self.old.tree.order.items self.old.tree.nodes.items }
-        requires is { TreeIs self.old.tree None }
+        requires going { IsGoing P.plain K.state P.fits (P.Store.state s.old).family
+            self.old.tree }
         requires legal { IsLegal (P.plain p) }
         requires packet { P.fits p (P.Store.state s.old).family }
-        requires stand { StandForSome P.plain K.state self.old.tree.nodes.items }
-        requires family { NodesFit P.fits (P.Store.state s.old).family
-            self.old.tree.nodes.items }
-        ensures took { TreeTook P.plain K.state self.old.tree self.new.tree (P.plain p ∷ []) }
-        ensures is { TreeIs self.new.tree (ended_where self.new.tree.short) }
+        ensures went { WentOn P.plain K.state P.fits (P.Store.state s.old).family
+            self.old.tree self.new.tree (P.plain p ∷ []) (ended_where self.new.tree.short) }
         ensures same { self.new ≡ record self.old {
           tree = self.new.tree;
           ended = ended_where self.new.tree.short;
         } }
-        ensures family { NodesFit P.fits (P.Store.state s.old).family
-            self.new.tree.nodes.items }
         ensures store { Stays (P.Store.state s.old) (P.Store.state s.new) }
     {
         self.feed(p, s);
@@ -245,23 +230,17 @@ impl<P: LocalPacket, S: Source, K: Sink> Strand<P, S, K> {
     /// Feeds the last packet of a source, and ends the flow: wholly, also where memory runs out, but then the end that is
     /// passed on is broken.
     fn feed_last(&mut self, p: P, s: &mut P::Store)
-        requires some { 0 < length self.old.tree.order.items }
         requires long { self.old.tree.short ≡ false }
-        requires swept { IsSwept self.old.tree.order.items self.old.tree.nodes.items }
-        requires is { TreeIs self.old.tree None }
+        requires going { IsGoing P.plain K.state P.fits (P.Store.state s.old).family
+            self.old.tree }
         requires legal { IsLegal (P.plain p) }
         requires packet { P.fits p (P.Store.state s.old).family }
-        requires stand { StandForSome P.plain K.state self.old.tree.nodes.items }
-        requires family { NodesFit P.fits (P.Store.state s.old).family
-            self.old.tree.nodes.items }
-        ensures took { TreeTook P.plain K.state self.old.tree self.new.tree (P.plain p ∷ []) }
-        ensures is { TreeIs self.new.tree (Some outcomes.Whole) }
+        ensures went { WentOn P.plain K.state P.fits (P.Store.state s.old).family
+            self.old.tree self.new.tree (P.plain p ∷ []) (Some outcomes.Whole) }
         ensures same { self.new ≡ record self.old {
           tree = self.new.tree;
           ended = Some outcomes.Whole;
         } }
-        ensures family { NodesFit P.fits (P.Store.state s.old).family
-            self.new.tree.nodes.items }
         ensures store { Stays (P.Store.state s.old) (P.Store.state s.new) }
     {
         self.feed(p, s);
@@ -270,18 +249,15 @@ impl<P: LocalPacket, S: Source, K: Sink> Strand<P, S, K> {
 
     /// Memory ran out, and the flow ends.
     fn run_short(&mut self, s: &mut P::Store)
-        requires is { TreeIs self.old.tree None }
-        requires family { NodesFit P.fits (P.Store.state s.old).family
-            self.old.tree.nodes.items }
-        ensures took { TreeTook P.plain K.state self.old.tree self.new.tree [] }
-        ensures is { TreeIs self.new.tree (Some outcomes.NoMemory) }
+        requires going { IsGoing P.plain K.state P.fits (P.Store.state s.old).family
+            self.old.tree }
+        ensures went { WentOn P.plain K.state P.fits (P.Store.state s.old).family
+            self.old.tree self.new.tree [] (Some outcomes.NoMemory) }
         ensures short { self.new.tree.short ≡ true }
         ensures same { self.new ≡ record self.old {
           tree = self.new.tree;
           ended = Some outcomes.NoMemory;
         } }
-        ensures family { NodesFit P.fits (P.Store.state s.old).family
-            self.new.tree.nodes.items }
         ensures store { Stays (P.Store.state s.old) (P.Store.state s.new) }
     {
         self.tree.fall(s);
@@ -290,16 +266,13 @@ impl<P: LocalPacket, S: Source, K: Sink> Strand<P, S, K> {
 
     /// The flow of the head ends so.
     pub(crate) fn end(&mut self, outcome: Outcome, s: &mut P::Store)
-        requires swept { IsSwept self.old.tree.order.items self.old.tree.nodes.items }
-        requires is { TreeIs self.old.tree None }
-        requires stand { StandForSome P.plain K.state self.old.tree.nodes.items }
-        requires family { NodesFit P.fits (P.Store.state s.old).family
-            self.old.tree.nodes.items }
-        ensures took { TreeTook P.plain K.state self.old.tree self.new.tree [] }
-        ensures is { TreeIs self.new.tree (Some outcome) }
+        requires going { IsGoing P.plain K.state P.fits (P.Store.state s.old).family
+            self.old.tree }
+        ensures went { WentOn P.plain K.state P.fits (P.Store.state s.old).family
+            self.old.tree self.new.tree [] (Some outcome) }
+        ensures short { outcome ≢ outcomes.Whole
+            → self.new.tree.short ≡ self.old.tree.short }
         ensures same { self.new ≡ record self.old { tree = self.new.tree; ended = Some outcome } }
-        ensures family { NodesFit P.fits (P.Store.state s.old).family
-            self.new.tree.nodes.items }
         ensures store { Stays (P.Store.state s.old) (P.Store.state s.new) }
     {
         self.end_tree(outcome, s);
@@ -308,16 +281,13 @@ impl<P: LocalPacket, S: Source, K: Sink> Strand<P, S, K> {
 
     /// The flow of the nodes ends so.
     fn end_tree(&mut self, outcome: Outcome, s: &mut P::Store)
-        requires swept { IsSwept self.old.tree.order.items self.old.tree.nodes.items }
-        requires is { TreeIs self.old.tree None }
-        requires stand { StandForSome P.plain K.state self.old.tree.nodes.items }
-        requires family { NodesFit P.fits (P.Store.state s.old).family
-            self.old.tree.nodes.items }
-        ensures took { TreeTook P.plain K.state self.old.tree self.new.tree [] }
-        ensures is { TreeIs self.new.tree (Some outcome) }
+        requires going { IsGoing P.plain K.state P.fits (P.Store.state s.old).family
+            self.old.tree }
+        ensures went { WentOn P.plain K.state P.fits (P.Store.state s.old).family
+            self.old.tree self.new.tree [] (Some outcome) }
+        ensures short { outcome ≢ outcomes.Whole
+            → self.new.tree.short ≡ self.old.tree.short }
         ensures same { self.new ≡ record self.old { tree = self.new.tree } }
-        ensures family { NodesFit P.fits (P.Store.state s.old).family
-            self.new.tree.nodes.items }
         ensures store { Stays (P.Store.state s.old) (P.Store.state s.new) }
     {
         match outcome {

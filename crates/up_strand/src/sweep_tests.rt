@@ -4,7 +4,10 @@ ghost use Rattle.up_shape.specs.VecPackets.{plain_of};
 ghost use Rattle.up_strand.specs.Stand.{StandForSome, AreTaking};
 ghost use Rattle.up_strand.specs.Tree.{IsSwept};
 
-use crate::{AnyModule, Node, Part, Takers, break_all, end_all, fall, feed_head};
+use crate::any_module::AnyModule;
+use crate::ending::{break_all, end_all, fall};
+use crate::node::{Node, Part, Takers};
+use crate::sweep::feed_head;
 use std::alloc::Global;
 use std::process::Abort;
 use up_model::{Kind, MAX_PACKET, Tally, packets_stay_legal};

@@ -6,7 +6,7 @@ ghost use Rattle.up_model.specs.declared.outcome.Outcome.TheVariants as outcomes
 ghost use Rattle.up_shape.specs.Stores.{Stays};
 ghost use Rattle.up_strand.specs.Gifts.{NodesFit};
 ghost use Rattle.up_strand.specs.Stand.{StandForSome, AreTaking};
-ghost use Rattle.up_strand.specs.Steps.{NodesAre, NodesTook, TreeIs, TreeTook, taken_where};
+ghost use Rattle.up_strand.specs.Steps.{IsGoing, NodesAre, NodesTook, WentOn, taken_where};
 ghost use Rattle.up_strand.specs.Tree.{IsSwept};
 
 use crate::ending::{break_all, end_all, fall};
@@ -29,17 +29,11 @@ pub struct Tree<P, K> {
 impl<P: LocalPacket, K: Sink> Tree<P, K> {
     /// Takes the next packet, and gives on all that comes of it.
     pub fn feed(&mut self, p: P, s: &mut P::Store)
-        requires some { 0 < length self.old.order.items }
-        requires swept { IsSwept self.old.order.items self.old.nodes.items }
-        requires is { TreeIs self.old None }
+        requires going { IsGoing P.plain K.state P.fits (P.Store.state s.old).family self.old }
         requires legal { IsLegal (P.plain p) }
         requires packet { P.fits p (P.Store.state s.old).family }
-        requires stand { StandForSome P.plain K.state self.old.nodes.items }
-        requires family { NodesFit P.fits (P.Store.state s.old).family self.old.nodes.items }
-        ensures took { TreeTook P.plain K.state self.old self.new
-            (taken_where self.old.short (P.plain p)) }
-        ensures is { TreeIs self.new None }
-        ensures family { NodesFit P.fits (P.Store.state s.old).family self.new.nodes.items }
+        ensures went { WentOn P.plain K.state P.fits (P.Store.state s.old).family self.old self.new
+            (taken_where self.old.short (P.plain p)) None }
         ensures store { Stays (P.Store.state s.old) (P.Store.state s.new) }
     {
         if self.short {
@@ -51,13 +45,9 @@ impl<P: LocalPacket, K: Sink> Tree<P, K> {
 
     /// The whole end of its flow: each pipe puts out what it owes, and all that comes is given on.
     pub fn end(&mut self, s: &mut P::Store)
-        requires swept { IsSwept self.old.order.items self.old.nodes.items }
-        requires is { TreeIs self.old None }
-        requires stand { StandForSome P.plain K.state self.old.nodes.items }
-        requires family { NodesFit P.fits (P.Store.state s.old).family self.old.nodes.items }
-        ensures took { TreeTook P.plain K.state self.old self.new [] }
-        ensures is { TreeIs self.new (Some outcomes.Whole) }
-        ensures family { NodesFit P.fits (P.Store.state s.old).family self.new.nodes.items }
+        requires going { IsGoing P.plain K.state P.fits (P.Store.state s.old).family self.old }
+        ensures went { WentOn P.plain K.state P.fits (P.Store.state s.old).family self.old self.new
+            [] (Some outcomes.Whole) }
         ensures store { Stays (P.Store.state s.old) (P.Store.state s.new) }
     {
         if self.short {
@@ -68,12 +58,11 @@ impl<P: LocalPacket, K: Sink> Tree<P, K> {
 
     /// The broken end of its flow: modules are given up, and nothing more is put out.
     pub fn break_off(&mut self, s: &mut P::Store)
-        requires is { TreeIs self.old None }
-        requires family { NodesFit P.fits (P.Store.state s.old).family self.old.nodes.items }
-        ensures took { TreeTook P.plain K.state self.old self.new [] }
-        ensures is { (outcome : Outcome) → outcome ≢ outcomes.Whole
-            → TreeIs self.new (Some outcome) }
-        ensures family { NodesFit P.fits (P.Store.state s.old).family self.new.nodes.items }
+        requires going { IsGoing P.plain K.state P.fits (P.Store.state s.old).family self.old }
+        ensures went { (outcome : Outcome) → outcome ≢ outcomes.Whole
+            → WentOn P.plain K.state P.fits (P.Store.state s.old).family self.old self.new
+            [] (Some outcome) }
+        ensures short { self.new.short ≡ self.old.short }
         ensures store { Stays (P.Store.state s.old) (P.Store.state s.new) }
     {
         break_nodes(&mut self.nodes, s);
@@ -81,13 +70,11 @@ impl<P: LocalPacket, K: Sink> Tree<P, K> {
 
     /// Memory ran out: the nodes give up what they hold, but for what is left for other strands.
     pub fn fall(&mut self, s: &mut P::Store)
-        requires is { TreeIs self.old None }
-        requires family { NodesFit P.fits (P.Store.state s.old).family self.old.nodes.items }
-        ensures took { TreeTook P.plain K.state self.old self.new [] }
+        requires going { IsGoing P.plain K.state P.fits (P.Store.state s.old).family self.old }
+        ensures went { (ended : Option Outcome) → ended ≢ Some outcomes.Whole
+            → WentOn P.plain K.state P.fits (P.Store.state s.old).family self.old self.new
+            [] ended }
         ensures short { self.new.short ≡ true }
-        ensures is { (ended : Option Outcome) → ended ≢ Some outcomes.Whole
-            → TreeIs self.new ended }
-        ensures family { NodesFit P.fits (P.Store.state s.old).family self.new.nodes.items }
         ensures store { Stays (P.Store.state s.old) (P.Store.state s.new) }
     {
         give_up_all(&mut self.nodes, s);

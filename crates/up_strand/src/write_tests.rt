@@ -1,4 +1,5 @@
-use crate::{AnyModule, write_packet};
+use crate::any_module::AnyModule;
+use crate::sink_packet::write_packet;
 use std::process::Abort;
 use std::test::Fail;
 use up_base::{AttrName, Refusal};

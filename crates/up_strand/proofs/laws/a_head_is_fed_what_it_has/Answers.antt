@@ -1,4 +1,4 @@
-use Rattle.up_strand.proofs.HeadFlows.{few_read_of_head, fewer_read_of_head, source_ended}
+use Rattle.up_strand.proofs.HeadFlows.{few_read_of_head, fewer_read_of_head, long_of_head, source_ended}
 use Rattle.up_strand.proofs.laws.a_head_is_fed_what_it_has.Goals as goal
 
 pub returns-clause-first : goal.returns-clause-first
@@ -18,3 +18,7 @@ returns-clause-bounded g c strand h pipe path form limit stands there kind =
 pub returns-clause-within : goal.returns-clause-within
 returns-clause-within g c strand h pipe path form limit stands there kind fault =
     fewer_read_of_head g.S.Source.state strand.intake h pipe path form limit stands.intake there kind fault
+
+pub returns-clause-long : goal.returns-clause-long
+returns-clause-long g c strand h pipe outcome stands there source ended cause =
+    long_of_head g.S.Source.state strand.intake h pipe outcome stands.intake there source ended cause

@@ -37,7 +37,7 @@ returns-clause-stands g c =
       kept = refl;
       last = refl;
       intake = c.intake_of.ensures told;
-      rooms = record { outcomes = rooms.outcomes; tallies = rooms.tallies; sinks = rooms.sinks };
+      rooms = rooms.told;
     })
 
 pub returns-clause-family : goal.returns-clause-family

@@ -1,4 +1,5 @@
-use Rattle.std.proofs.Common.{◌≡◌, ℕ, ◌<◌, length, Some, None, sym, ap, arith, ◌∙◌}
+use Rattle.std.proofs.Common.{◌≡◌, ◌<◌, length, sym, ap, arith, ◌∙◌}
+use Rattle.std.proofs.lemmas.Option.{none-some, same_Some}
 use Rattle.up_model.specs.Plans.{strand_of}
 use Rattle.up_strand.proofs.Told.{outcome_is, pipe_found}
 use Rattle.up_strand.specs.History.{told_at}
@@ -6,17 +7,11 @@ use Rattle.up_strand.specs.Strands.{outcome_of_part, place_of}
 use Rattle.up_strand.specs.declared.node.Node.{Node}
 use Rattle.up_strand.proofs.strand.Strand.outcome.Goals as goal
 
-some_number : (a b : ℕ) → Some a ≡ Some b → a ≡ b
-some_number a b same = cc
-
-none_some : (a : ℕ) → None ≡ Some a → ⊥
-none_some a same = cc
-
 pub unreachable-requires : goal.unreachable-requires
 unreachable-requires g c =
     let within = c.requires.within in
     let found = pipe_found g.P.LocalPacket.plain g.S.Source.state g.K.Sink.state c.args.self.now within.0 within.1 c.args.pipe within.2 in
-    none_some found.0 (sym c.in-None.is ∙ c.node_of.ensures ∙ found.3)
+    none-some found.0 (sym c.in-None.is ∙ c.node_of.ensures ∙ found.3)
 
 pub returns : goal.returns
 returns g c h stands =
@@ -24,7 +19,7 @@ returns g c h stands =
     let within = c.requires.within in
     let found = pipe_found g.P.LocalPacket.plain g.S.Source.state g.K.Sink.state strand within.0 within.1 c.args.pipe within.2 in
     let i = c.in-Some.i in
-    let same : found.0 ≡ i = some_number found.0 i (sym found.3 ∙ sym c.node_of.ensures ∙ c.in-Some.is) in
+    let same : found.0 ≡ i = same_Some found.0 i (sym found.3 ∙ sym c.node_of.ensures ∙ c.in-Some.is) in
     let as_many = sym within.1.built.catches ∙ stands.built.catches in
     let own : i < length (strand_of h.pipes h.head) = let less = found.1 in omega (arith, same, as_many, less) in
     let node = c.index.result.now in

@@ -1,7 +1,0 @@
-use Rattle.up_strand.proofs.trial_run.step_on.Goals as goal
-
-pub returns-clause-stands : goal.returns-clause-stands
-returns-clause-stands g c = (_, (c.step_item.ensures.stepped c.requires.stands.0 c.requires.stands.1).step.stands)
-
-pub returns-clause-family : goal.returns-clause-family
-returns-clause-family g c = rw c.step_item.ensures.store.same c.step_item.ensures.family
