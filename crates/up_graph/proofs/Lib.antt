@@ -1,6 +1,11 @@
-pub mod Chains
+pub mod Found
 pub mod Items
+pub mod Judged
 pub mod Keys
+pub mod LeastWrong
 pub mod Order
 pub mod PipeRuns
+pub mod Rows
 pub mod Texts
+pub mod Told
+pub mod WellFormed

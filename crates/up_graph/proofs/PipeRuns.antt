@@ -1,14 +1,14 @@
 -- The pipes that were read, and those that are left.
-use Rattle.std.proofs.Common.{◌≡◌, ℕ, ◌+◌, ◌<◌, ◌≤◌, List, [], ◌∷◌, ◌++◌, length, get_or, drop, Option, Some, None, Ok, Err, refl, sym, ap, ◌∙◌, append_assoc, add-one, arith, length-drop}
-use Rattle.std.specs.Prelude.{◌==◌}
-use Rattle.std.proofs.lemmas.Bool.Decides.{nat_tests}
-use Rattle.std.proofs.lemmas.List.{append-nil, drop_all}
-use Rattle.toml.proofs.Views.{items_view-drop}
-use Rattle.toml.specs.View.{view, items_view}
+use Rattle.std.proofs.Common.{◌≡◌, ℕ, ◌+◌, ◌<◌, ◌≤◌, List, [], ◌∷◌, ◌++◌, length, get_or, drop, map, Vec, Global, Ok, Err, refl, sym, ap, ◌∙◌, append_assoc, add-one}
+use Rattle.std.proofs.lemmas.List.{append-nil, drop_all, drop_more}
+use Rattle.toml.specs.Data.{Data}
+use Rattle.toml.specs.View.{array_view, view}
 use Rattle.toml.specs.declared.value.Value.{Value}
+use Rattle.up_graph.proofs.Items.{values_view}
 use Rattle.up_graph.specs.Answers.{Answers, Checked, ◌>>=◌}
-use Rattle.up_graph.specs.Pipes.{is_empty, pipe_of, pipes_from}
-use Rattle.up_graph.specs.declared.chain.Stand.{Stand}
+use Rattle.up_graph.specs.Pipes.{pipe_in, pipes_from}
+use Rattle.up_graph.specs.Top.{numbered}
+use Rattle.up_graph.specs.Values.{values}
 use Rattle.up_graph.specs.declared.graph_refused.GraphRefused.{GraphRefused}
 use Rattle.up_graph.specs.declared.graph_refused.GraphRefused.TheVariants.{NoMemory}
 use Rattle.up_model.specs.declared.pipe.Pipe.{Pipe}
@@ -18,40 +18,26 @@ abbrev pub with_front : List Pipe → Checked (List Pipe) → Checked (List Pipe
 with_front front (Ok found) = Ok (front ++ found)
 with_front front (Err refused) = Err refused
 
--- what is answered, where these pipes were read and the values from a place on are left
-abbrev pub going_on : List Pipe → Option (List ℕ) → ℕ → List Value → Checked (List Pipe)
-going_on front before place values = with_front front (pipes_from place before (items_view (drop place values)))
+-- what is answered, where these pipes were read and the items from a place on are left
+abbrev pub going_on : List Data → List Pipe → ℕ → List Value → Checked (List Pipe)
+going_on tables front place items = with_front front (pipes_from tables (place + 1) (map view (drop place items)))
 
 one_more : (front : List Pipe) (pipe : Pipe) (others : Checked (List Pipe))
     → with_front front (others >>= (λ pipes. Ok (pipe ∷ pipes))) ≡ with_front (front ++ pipe ∷ []) others
 one_more front pipe (Ok pipes) = ap Ok (sym (append_assoc front (pipe ∷ []) pipes))
 one_more front pipe (Err refused) = refl
 
-no_more : (values : List Value) → (length values == 0) ≡ is_empty (items_view values)
-no_more [] = refl
-no_more (value ∷ values) = grind (arith, nat_tests)
-
--- the last place is the one that no value follows
-is_last-at : (place : ℕ) (values : List Value) → place < length values → (place + 1 == length values) ≡ is_empty (items_view (drop (place + 1) values))
-is_last-at place values within =
-    let same : (place + 1 == length values) ≡ (length (drop (place + 1) values) == 0) = grind (arith, nat_tests, length-drop) in
-    same ∙ no_more (drop (place + 1) values)
-
--- the stand of the pipe at a place among so many
-abbrev pub stand_at : ℕ → Option (List ℕ) → ℕ → Stand
-stand_at place before count = record { place = place; before = before; is_last = place + 1 == count }
-
 none_before : (found : Checked (List Pipe)) → with_front [] found ≡ found
 none_before (Ok pipes) = refl
 none_before (Err refused) = refl
 
 -- the next pipe is read
-pub going_on-next : (front : List Pipe) (before : Option (List ℕ)) (place : ℕ) (values : List Value) (value : Value) (pipe : Pipe)
-    → place < length values → pipe_of (stand_at place before (length values)) (view (get_or values place value)) ≡ Ok pipe
-    → going_on front before place values ≡ going_on (front ++ pipe ∷ []) (Some pipe.name) (place + 1) values
+pub going_on-next : (tables : List Data) (front : List Pipe) (place : ℕ) (items : List Value) (item : Value) (pipe : Pipe)
+    → place < length items → numbered (place + 1) (pipe_in tables (view (get_or items place item))) ≡ Ok pipe
+    → going_on tables front place items ≡ going_on tables (front ++ pipe ∷ []) (place + 1) items
 unfolding pipes_from
-going_on-next front before place values value pipe within found =
-    rw (items_view-drop values place value within, ← is_last-at place values within, found, add-one place) (one_more front pipe _)
+going_on-next tables front place items item pipe within found =
+    rw (drop_more items place item within, found, add-one (place + 1)) (one_more front pipe _)
 
 fails : (front : List Pipe) (refused : GraphRefused) (wanted : Checked Pipe) (next : Pipe → Checked (List Pipe))
     → Answers (λ pipe. pipe) (Err refused) wanted → Answers (λ pipes. pipes) (Err refused) (with_front front (wanted >>= next))
@@ -59,19 +45,17 @@ fails front NoMemory wanted next is = tt
 fails front refused wanted next is = rw is refl
 
 -- the next pipe is refused
-pub going_on-refused : (front : List Pipe) (before : Option (List ℕ)) (place : ℕ) (values : List Value) (value : Value) (refused : GraphRefused)
-    → place < length values → Answers (λ pipe. pipe) (Err refused) (pipe_of (stand_at place before (length values)) (view (get_or values place value)))
-    → Answers (λ pipes. pipes) (Err refused) (going_on front before place values)
+pub going_on-refused : (tables : List Data) (front : List Pipe) (place : ℕ) (items : List Value) (item : Value) (refused : GraphRefused)
+    → place < length items → Answers (λ pipe. pipe) (Err refused) (numbered (place + 1) (pipe_in tables (view (get_or items place item))))
+    → Answers (λ pipes. pipes) (Err refused) (going_on tables front place items)
 unfolding pipes_from
-going_on-refused front before place values value refused within is =
-    rw (items_view-drop values place value within, ← is_last-at place values within) (fails front refused _ _ is)
+going_on-refused tables front place items item refused within is = rw (drop_more items place item within) (fails front refused _ _ is)
 
--- no value is left
-pub going_on-end : (front : List Pipe) (before : Option (List ℕ)) (place : ℕ) (values : List Value)
-    → length values ≤ place → going_on front before place values ≡ Ok front
+-- no item is left
+pub going_on-end : (tables : List Data) (front : List Pipe) (place : ℕ) (items : List Value) → length items ≤ place → going_on tables front place items ≡ Ok front
 unfolding pipes_from
-going_on-end front before place values beyond = rw (drop_all place values beyond) (ap Ok (append-nil front))
+going_on-end tables front place items beyond = rw (drop_all place items beyond) (ap Ok (append-nil front))
 
 -- nothing is read yet
-pub going_on-start : (values : List Value) → going_on [] None 0 values ≡ pipes_from 0 None (items_view values)
-going_on-start values = none_before (pipes_from 0 None (items_view values))
+pub going_on-start : (tables : List Data) (array : Vec Value Global) → going_on tables [] 0 array.items ≡ pipes_from tables 1 (values (array_view array))
+going_on-start tables array = none_before _ ∙ ap (pipes_from tables 1) (sym (values_view array))

@@ -1,9 +1,11 @@
 pub mod Answers
-pub mod Chain
 pub mod Document
-pub mod Draft
+pub mod Faults
 pub mod Field
 pub mod Graph
-pub mod KindFields
+pub mod KindRows
+pub mod KindSeen
+pub mod LeastWrong
 pub mod Pipes
 pub mod Top
+pub mod Values

@@ -1,8 +1,11 @@
 -- What is looked at before the pipes: the version, the number of pipes, the keys at the top.
-use Rattle.std.specs.Prelude.{ℕ, ◌+◌, ℤ, pos, negsuc, Bool, true, false, [], ◌∷◌, codes, nat_lt, ◌==◌, Option, Some, None, Ok, Err, if◌then◌else◌}
-use Rattle.toml.specs.Data.{Data, integer, array, table, Items, no_items, item, Members, get_member}
+use Rattle.std.specs.Prelude.{ℕ, ℤ, pos, negsuc, Bool, false, List, [], ◌∷◌, length, codes, nat_lt, ◌==◌, Option, Some, None, Ok, Err, if◌then◌else◌}
+use Rattle.std.specs.List.{list_all}
+use Rattle.std.specs.Option.{is_some}
+use Rattle.toml.specs.Data.{Data, integer, array, as_table, Members, get_member}
 use Rattle.up_graph.specs.Answers.{Checked, ◌>>=◌}
 use Rattle.up_graph.specs.Field.{Field, field_map, both, known_alone}
+use Rattle.up_graph.specs.Values.{values}
 use Rattle.up_graph.specs.declared.graph_refused.GraphRefused.TheVariants.{BadVersion, NoPipes, TooManyPipes, BadField}
 use Rattle.up_model.specs.declared.limits.TheConstants.{MAX_PIPES}
 
@@ -20,37 +23,29 @@ version_is _ = Err (BadVersion None)
 abbrev pub version_of : Members → Checked (Unit {0})
 version_of top = version_is (get_member (codes "version") top)
 
--- how many items there are
-abbrev pub items_len : Items → ℕ
-items_len no_items = 0
-items_len (item first others) = 1 + items_len others
-
 -- there are 1 to 256 of them
-abbrev pub counted : Items → Checked (Unit {0})
+abbrev pub counted : List Data → Checked (Unit {0})
 counted pipes =
-    if items_len pipes == 0 then Err NoPipes
-    else if nat_lt MAX_PIPES (items_len pipes) then Err (TooManyPipes (items_len pipes))
+    if length pipes == 0 then Err NoPipes
+    else if nat_lt MAX_PIPES (length pipes) then Err (TooManyPipes (length pipes))
     else Ok tt
 
 -- what stands at `pipe`: nothing, an array, or something else
-abbrev pub array_in : Option Data → Checked (Option Items)
+abbrev pub array_in : Option Data → Checked (Option (List Data))
 array_in None = Err NoPipes
-array_in (Some (array pipes)) = counted pipes >>= (λ _. Ok (Some pipes))
+array_in (Some (array pipes)) = counted (values pipes) >>= (λ _. Ok (Some (values pipes)))
 array_in (Some _) = Ok None
 
 -- the array at `pipe`, which has 1 to 256 items; what is no array is refused later
-abbrev pub array_of : Members → Checked (Option Items)
+abbrev pub array_of : Members → Checked (Option (List Data))
 array_of top = array_in (get_member (codes "pipe") top)
 
--- each item is a table
-abbrev pub are_tables : Items → Bool
-are_tables no_items = true
-are_tables (item (table _) others) = are_tables others
-are_tables (item _ others) = false
+abbrev pub is_table : Data → Bool
+is_table value = is_some (as_table value)
 
 -- `pipe` is an array of tables
-abbrev pub tables_in : Option Items → Field Items
-tables_in (Some pipes) = if are_tables pipes then Ok pipes else Err (codes "pipe")
+abbrev pub tables_in : Option (List Data) → Field (List Data)
+tables_in (Some pipes) = if list_all is_table pipes then Ok pipes else Err (codes "pipe")
 tables_in None = Err (codes "pipe")
 
 -- the wrong field of a pipe, by its number, or of the top, whose number is 0
@@ -59,7 +54,7 @@ numbered number (Ok value) = Ok value
 numbered number (Err key) = Err (BadField number key)
 
 -- the tables of the pipes, where no other key stands at the top
-abbrev pub tables_of : Option Items → Members → Checked Items
+abbrev pub tables_of : Option (List Data) → Members → Checked (List Data)
 tables_of found top =
     numbered 0 (field_map (λ found. found.1)
     (both (known_alone (codes "pipe" ∷ codes "version" ∷ []) top)

@@ -1,9 +1,9 @@
 use thiserror::Error;
 use up_base::Text;
-use up_model::{MAX_GRAPH, MAX_PIPES};
+use up_model::{MAX_GRAPH, MAX_PIPES, MAX_WORKERS};
 
-/// The first rule of a graph file that a text breaks. The rules are looked at in the order of the variants, and the
-/// fields pipe by pipe.
+/// The first rule of a graph file that a text breaks. The rules are looked at in the order of the variants, each at the
+/// first pipe that breaks it. Pipes are numbered from 1.
 #[derive(Debug, Drop, Error)]
 pub enum GraphRefused {
     #[error("{len} bytes, where a graph file has at most {most}", most = MAX_GRAPH)]
@@ -23,6 +23,33 @@ pub enum GraphRefused {
     /// The least wrong field of the pipe of this number, or at the top of the file, where the number is 0.
     #[error("pipe {pipe}: bad field {}", .field.as_str())]
     BadField { pipe: u16, field: Text },
+    /// Its name stands on an earlier pipe.
+    #[error("pipe {pipe}: name used twice")]
+    SameName { pipe: u16 },
+    /// Its `input` is an array of two or more texts.
+    #[error("pipe {pipe}: more than one input")]
+    ManyInputs { pipe: u16 },
+    /// Its `input` is no pipe's name.
+    #[error("pipe {pipe}: unknown input")]
+    UnknownInput { pipe: u16 },
+    /// Following inputs from it never reaches a source.
+    #[error("pipe {pipe}: cycle")]
+    Cycle { pipe: u16 },
+    /// It has two or more consumers, where its output can feed one.
+    #[error("pipe {pipe}: more than one output")]
+    ManyOutputs { pipe: u16 },
+    /// It has an output and no consumer.
+    #[error("pipe {pipe}: no output")]
+    NoOutput { pipe: u16 },
+    /// Its input has no output.
+    #[error("pipe {pipe}: wrong flow")]
+    WrongFlow { pipe: u16 },
+    /// Its path stands on an earlier pipe, and they aren't both sources.
+    #[error("pipe {pipe}: path used twice")]
+    SamePath { pipe: u16 },
+    /// There are more than 16 different workers. This doesn't come while every pipe is on one.
+    #[error("{count} workers, where a graph has at most {most}", most = MAX_WORKERS)]
+    TooManyWorkers { count: usize },
     /// No memory was found. This may come at any point.
     #[error("out of memory")]
     NoMemory,

@@ -1,46 +1,15 @@
+mod graphs;
 mod tables;
+mod words;
 
-use self::tables::{FIRST_PIPES, LAST_PIPES, MIDDLE_PIPES, ONLY_PIPES, SPELLINGS, TOPS};
+use self::graphs::GRAPHS;
+use self::tables::{FIRST_PIPES, MIDDLE_PIPES, SPELLINGS, TOPS};
+use self::words::{answer, input_words, pipe_words, refusal_words};
 use super::*;
 use std::string::String;
 use std::test::*;
 use up_base::Text;
-use up_model::{CatchSet, Kind, Pipe, SinkForm, SourceForm};
-
-/// What a text answers: the kinds, paths and limits of its pipes, or the refusal with its numbers.
-fn answer(rt: &HostRuntime, text: &[u8]) -> Result<String, Fail> {
-    let alloc = rt.alloc();
-    Ok(match read_graph(alloc, text) {
-        Ok(graph) => {
-            let mut words = String::new(alloc);
-            for place in 0..graph.pipes.len() {
-                let word = kind_words(rt, &graph.pipes.at(place).kind)?;
-                words.push_str(word.as_str())?;
-            }
-            words
-        }
-        Err(GraphRefused::TooBig { len }) => format!(in alloc; "TooBig {len}")?,
-        Err(GraphRefused::NotToml) => format!(in alloc; "NotToml")?,
-        Err(GraphRefused::BadVersion { got: Some(got) }) => format!(in alloc; "BadVersion {got}")?,
-        Err(GraphRefused::BadVersion { got: None }) => format!(in alloc; "BadVersion")?,
-        Err(GraphRefused::NoPipes) => format!(in alloc; "NoPipes")?,
-        Err(GraphRefused::TooManyPipes { count }) => format!(in alloc; "TooManyPipes {count}")?,
-        Err(GraphRefused::BadField { pipe, field }) => {
-            format!(in alloc; "{pipe}: {}", field.as_str())?
-        }
-        Err(GraphRefused::NoMemory) => format!(in alloc; "NoMemory")?,
-    })
-}
-
-fn kind_words(rt: &HostRuntime, kind: &Kind) -> Result<String, Fail> {
-    let alloc = rt.alloc();
-    Ok(match kind {
-        Kind::Source { path, limit, .. } => format!(in alloc; "source {} {limit} ", path.as_str())?,
-        Kind::Sink { path, .. } => format!(in alloc; "sink {} ", path.as_str())?,
-        Kind::Idem => format!(in alloc; "idem ")?,
-        _ => format!(in alloc; "a kind that no chain has ")?,
-    })
-}
+use up_model::{CatchSet, Pipe};
 
 const CHAIN: &str = r#"
 version = 1
@@ -62,48 +31,37 @@ input = "pass"
 path = "out.ts"
 "#;
 
-fn has_name_and_input(pipe: &Pipe, name: &[u8], input: Option<u16>) -> bool {
-    pipe.name.bytes() == name && pipe.input == input
-}
-
-fn has_defaults(pipe: &Pipe) -> bool {
+fn has_name_and_defaults(pipe: &Pipe, name: &[u8]) -> bool {
     let caught_nothing = CatchSet {
         drop: false,
         cut: false,
         sync: false,
         lost: false,
     };
-    let on_main = pipe.worker.bytes() == b"main".as_slice();
+    let on_main = pipe.name.bytes() == name && pipe.worker.bytes() == b"main".as_slice();
     on_main && pipe.select.is_none() && pipe.queue == 64 && pipe.caught == caught_nothing
 }
 
 #[test]
-fn a_chain_of_three_pipes_gives_its_graph(rt: HostRuntime) {
+fn what_a_file_leaves_out_has_its_default(rt: HostRuntime) -> Result<(), Fail> {
     let graph = read_graph(rt.alloc(), CHAIN.as_bytes()).expect(&rt, "a graph");
     assert_eq!(rt; graph.pipes.len(), 3);
-    let (capture, pass, archive) = (graph.pipes.at(0), graph.pipes.at(1), graph.pipes.at(2));
-    assert!(rt; has_name_and_input(capture, b"capture", None) && has_defaults(capture));
-    assert!(rt; has_name_and_input(pass, b"pass", Some(0)) && has_defaults(pass));
-    assert!(rt; has_name_and_input(archive, b"archive", Some(1)) && has_defaults(archive));
-    match &capture.kind {
-        Kind::Source { path, form, limit } => {
-            assert_eq!(rt; path.as_str(), "in.ts");
-            assert_eq!(rt; *form, SourceForm::Raw { block: 4096 });
-            assert_eq!(rt; *limit, 1_099_511_627_776);
-        }
-        _ => assert!(rt; false, "not a source"),
+    let wanted = [
+        ("capture", "source in.ts 4096 1099511627776"),
+        ("pass", "idem < 0"),
+        ("archive", "sink out.ts < 1"),
+    ];
+    for (place, (name, words)) in wanted.iter().enumerate() {
+        assert!(rt; place < graph.pipes.len());
+        let pipe = graph.pipes.at(place);
+        assert!(rt; has_name_and_defaults(pipe, name.as_bytes()));
+        let told = pipe_words(&rt, pipe)?;
+        assert_eq!(rt; told.as_str(), *words);
     }
-    assert!(rt; matches!(pass.kind, Kind::Idem));
-    match &archive.kind {
-        Kind::Sink { path, form } => {
-            assert_eq!(rt; path.as_str(), "out.ts");
-            assert_eq!(rt; *form, SinkForm::Raw);
-        }
-        _ => assert!(rt; false, "not a sink"),
-    }
+    Ok(())
 }
 
-/// A line for each text that doesn't give what stands beside it, where these pipes follow it.
+/// A line for each text that doesn't give what stands beside it of the pipe at a place, where these pipes follow it.
 fn wrong_texts(
     rt: &HostRuntime,
     table: &[(&'static str, &'static str)],
@@ -112,7 +70,7 @@ fn wrong_texts(
     let mut wrong = String::new(rt.alloc());
     for (start, wanted) in table {
         let text = format!(in rt.alloc(); "{start}{after}")?;
-        let told = answer(rt, text.as_bytes())?;
+        let told = answer(rt, text.as_bytes(), 0)?;
         if told.as_str() != *wanted {
             let line = format!(in rt.alloc(); "{text}\ngives {told}\n")?;
             wrong.push_str(line.as_str())?;
@@ -121,17 +79,18 @@ fn wrong_texts(
     Ok(wrong)
 }
 
-/// A line for each list of fields that doesn't give what stands beside it, where it is the pipe between these others.
+/// A line for each list of fields that doesn't give what stands beside it, where it is the pipe at a place, between these others.
 fn wrong_pipes(
     rt: &HostRuntime,
     before: &str,
     table: &[(&'static str, &'static str)],
     after: &str,
+    place: usize,
 ) -> Result<String, Fail> {
     let mut wrong = String::new(rt.alloc());
     for (fields, wanted) in table {
         let text = format!(in rt.alloc(); "version = 1\npipe = [{before}{{{fields}}}{after}]")?;
-        let told = answer(rt, text.as_bytes())?;
+        let told = answer(rt, text.as_bytes(), place)?;
         if told.as_str() != *wanted {
             let line = format!(in rt.alloc(); "{fields} gives {told}\n")?;
             wrong.push_str(line.as_str())?;
@@ -156,18 +115,48 @@ fn odd_spellings_of_toml_mean_the_same(rt: HostRuntime) -> Result<(), Fail> {
 }
 
 #[test]
-fn the_least_wrong_field_of_the_first_wrong_pipe_is_told(rt: HostRuntime) -> Result<(), Fail> {
+fn each_kind_has_its_fields_and_the_least_wrong_one_is_told(rt: HostRuntime) -> Result<(), Fail> {
     let source = "{name = 'a', kind = 'source', path = 'i'}, ";
     let sink = ", {name = 'b', kind = 'sink', input = 'a', path = 'o'}";
     let end = ", {name = 'c', kind = 'sink', input = 'b', path = 'o'}";
-    let wrong = wrong_pipes(&rt, "", &FIRST_PIPES, sink)?;
+    let wrong = wrong_pipes(&rt, "", &FIRST_PIPES, sink, 0)?;
     assert_eq!(rt; wrong.as_str(), "");
-    let wrong = wrong_pipes(&rt, source, &MIDDLE_PIPES, end)?;
+    let wrong = wrong_pipes(&rt, source, &MIDDLE_PIPES, end, 1)?;
     assert_eq!(rt; wrong.as_str(), "");
-    let wrong = wrong_pipes(&rt, source, &LAST_PIPES, "")?;
+    Ok(())
+}
+
+#[test]
+fn a_wrong_field_comes_before_all_that_is_wrong_between_pipes(rt: HostRuntime) -> Result<(), Fail> {
+    let before = "{name = 's', kind = 'null', input = ['s', 's']}, ";
+    let after = ", {name = 's', kind = 'idem', input = 'x', zz = 1}";
+    let cases = [("name = 's', kind = 'null', input = 'x'", "3: zz")];
+    let wrong = wrong_pipes(&rt, before, &cases, after, 0)?;
     assert_eq!(rt; wrong.as_str(), "");
-    let wrong = wrong_pipes(&rt, "", &ONLY_PIPES, "")?;
-    assert_eq!(rt; wrong.as_str(), "");
+    Ok(())
+}
+
+/// The places of the inputs that these tables give, or their refusal.
+fn graph_answer(rt: &HostRuntime, tables: &[&'static str]) -> Result<String, Fail> {
+    let mut text = String::new(rt.alloc());
+    text.push_str("version = 1\npipe = [")?;
+    for table in tables {
+        text.push_str(table)?;
+        text.push_str(",\n")?;
+    }
+    text.push_str("]")?;
+    match read_graph(rt.alloc(), text.as_bytes()) {
+        Ok(graph) => input_words(rt, &graph),
+        Err(refused) => refusal_words(rt, &refused),
+    }
+}
+
+#[test]
+fn pipes_are_joined_by_name_and_the_first_refusal_is_told(rt: HostRuntime) -> Result<(), Fail> {
+    for (tables, wanted) in &GRAPHS {
+        let told = graph_answer(&rt, tables)?;
+        assert_eq!(rt; told.as_str(), *wanted);
+    }
     Ok(())
 }
 
@@ -180,14 +169,22 @@ fn repeated(rt: &HostRuntime, piece: &str, count: u32) -> Result<String, Fail> {
     Ok(text)
 }
 
-/// A file of a source, idle pipes of one name, and a sink: so many pipes.
+/// A file of a source, idle pipes, and a sink: so many pipes.
 fn long_chain(rt: &HostRuntime, count: u32) -> Result<String, Fail> {
     let mut text = String::new(rt.alloc());
-    text.push_str("version = 1\npipe = [{name = 'a', kind = 'source', path = 'i'},\n")?;
-    for _ in 2..count {
-        text.push_str("{name = 'a', kind = 'idem', input = 'a'},\n")?;
+    text.push_str("version = 1\npipe = [{name = '1', kind = 'source', path = 'i'},\n")?;
+    for number in 2..count {
+        let before = number - 1;
+        let pipe = format!(in rt.alloc();
+            "{{name = '{number}', kind = 'idem', input = '{before}'}},\n"
+        )?;
+        text.push_str(pipe.as_str())?;
     }
-    text.push_str("{name = 'a', kind = 'sink', input = 'a', path = 'o'}]")?;
+    let before = count.saturating_sub(1);
+    let sink = format!(in rt.alloc();
+        "{{name = '{count}', kind = 'sink', input = '{before}', path = 'o'}}]"
+    )?;
+    text.push_str(sink.as_str())?;
     Ok(text)
 }
 
@@ -195,15 +192,40 @@ fn long_chain(rt: &HostRuntime, count: u32) -> Result<String, Fail> {
 fn a_file_has_at_most_256_pipes(rt: HostRuntime) -> Result<(), Fail> {
     let alloc = rt.alloc();
     let most = long_chain(&rt, 256)?;
-    let graph = read_graph(alloc, most.as_bytes()).expect(&rt, "256 pipes");
-    assert_eq!(rt; graph.pipes.len(), 256);
+    let told = answer(&rt, most.as_bytes(), 255)?;
+    assert_eq!(rt; told.as_str(), "sink o < 254");
     let many = long_chain(&rt, 257)?;
-    let told = answer(&rt, many.as_bytes())?;
+    let told = answer(&rt, many.as_bytes(), 0)?;
     assert_eq!(rt; told.as_str(), "TooManyPipes 257");
     for (count, wanted) in [(256, "0: a"), (257, "TooManyPipes 257")] {
         let numbers = repeated(&rt, "1, ", count)?;
         let text = format!(in alloc; "version = 1\na = 1\npipe = [{numbers}]")?;
-        let told = answer(&rt, text.as_bytes())?;
+        let told = answer(&rt, text.as_bytes(), 0)?;
+        assert_eq!(rt; told.as_str(), wanted);
+    }
+    Ok(())
+}
+
+#[test]
+fn the_last_of_256_pipes_is_told_by_its_number(rt: HostRuntime) -> Result<(), Fail> {
+    let most = long_chain(&rt, 255)?;
+    let start = most.as_str().strip_suffix("]").expect(&rt, "a list");
+    for (last, wanted) in [
+        (
+            "name = 'x', kind = 'sink', input = '1', path = ''",
+            "256: path",
+        ),
+        ("name = '1', kind = 'null', input = '1'", "SameName 256"),
+        (
+            "name = 'x', kind = 'null', input = ['1', '1']",
+            "ManyInputs 256",
+        ),
+        ("name = 'x', kind = 'null', input = 'y'", "UnknownInput 256"),
+        ("name = 'x', kind = 'idem', input = 'x'", "Cycle 256"),
+        ("name = 'x', kind = 'null', input = '255'", "WrongFlow 256"),
+    ] {
+        let text = format!(in rt.alloc(); "{start}, {{{last}}}]")?;
+        let told = answer(&rt, text.as_bytes(), 0)?;
         assert_eq!(rt; told.as_str(), wanted);
     }
     Ok(())
@@ -222,13 +244,10 @@ fn padded(rt: &HostRuntime, text: &str, size: usize) -> Result<String, Fail> {
 #[test]
 fn a_file_has_at_most_1048576_bytes(rt: HostRuntime) -> Result<(), Fail> {
     let most = padded(&rt, CHAIN, 1_048_576)?;
-    let told = answer(&rt, most.as_bytes())?;
-    assert_eq!(rt;
-        told.as_str(),
-        "source in.ts 1099511627776 idem sink out.ts "
-    );
+    let told = answer(&rt, most.as_bytes(), 2)?;
+    assert_eq!(rt; told.as_str(), "sink out.ts < 1");
     let many = padded(&rt, CHAIN, 1_048_577)?;
-    let told = answer(&rt, many.as_bytes())?;
+    let told = answer(&rt, many.as_bytes(), 2)?;
     assert_eq!(rt; told.as_str(), "TooBig 1048577");
     Ok(())
 }
@@ -236,20 +255,26 @@ fn a_file_has_at_most_1048576_bytes(rt: HostRuntime) -> Result<(), Fail> {
 #[test]
 fn names_and_paths_have_a_greatest_length(rt: HostRuntime) -> Result<(), Fail> {
     let alloc = rt.alloc();
-    let cases = [(64, 4096, ""), (65, 4096, "1: name"), (64, 4097, "1: path")];
-    for (name_len, path_len, refused) in cases {
+    for (name_len, path_len, attr_len, refused) in [
+        (64, 4096, 64, ""),
+        (65, 4096, 64, "1: name"),
+        (64, 4097, 64, "1: path"),
+        (64, 4096, 65, "2: attr"),
+    ] {
         let name = repeated(&rt, "n", name_len)?;
         let path = repeated(&rt, "p", path_len)?;
+        let attr = repeated(&rt, "a", attr_len)?;
         let text = format!(in alloc;
             "version = 1\npipe = [{{name = '{name}', kind = 'source', path = '{path}'}}, \
-            {{name = 'b', kind = 'sink', input = '{name}', path = '{path}'}}]"
+            {{name = 'b', kind = 'delattr', attr = '{attr}', input = '{name}'}}, \
+            {{name = 'c', kind = 'null', input = ['b']}}]"
         )?;
         let wanted = if refused.is_empty() {
-            format!(in alloc; "source {path} 1099511627776 sink {path} ")?
+            format!(in alloc; "delattr {attr} < 0")?
         } else {
             format!(in alloc; "{refused}")?
         };
-        let told = answer(&rt, text.as_bytes())?;
+        let told = answer(&rt, text.as_bytes(), 1)?;
         assert_eq!(rt; told.as_str(), wanted.as_str());
     }
     Ok(())
@@ -262,7 +287,7 @@ fn bytes_that_are_not_utf8_are_not_toml(rt: HostRuntime) -> Result<(), Fail> {
         b"version = 2 # \xc0\x80",
         b"version = 2 # \xe4",
     ] {
-        let told = answer(&rt, text)?;
+        let told = answer(&rt, text, 0)?;
         assert_eq!(rt; told.as_str(), "NotToml");
     }
     Ok(())
@@ -290,6 +315,14 @@ fn a_refusal_says_what_is_wrong(rt: HostRuntime) -> Result<(), Fail> {
         (
             GraphRefused::BadField { pipe: 3, field },
             "pipe 3: bad field path"
+        ),
+        (
+            GraphRefused::SameName { pipe: 2 },
+            "pipe 2: name used twice"
+        ),
+        (
+            GraphRefused::TooManyWorkers { count: 17 },
+            "17 workers, where a graph has at most 16"
         ),
         (GraphRefused::NoMemory, "out of memory"),
     ]?;

@@ -1,9 +1,11 @@
 // What is looked at before the pipes.
 ghost use Rattle.std.specs.Prelude.{◌≡◌, ◌≤◌, option_map, vec_len, IfOk, IfSome};
+ghost use Rattle.std.specs.List.{list_all};
 ghost use Rattle.toml.specs.View.{array_view, table_view};
 ghost use Rattle.up_graph.specs.Answers.{Answers, Refuses};
 ghost use Rattle.up_graph.specs.Field.{seen};
-ghost use Rattle.up_graph.specs.Top.{are_tables, array_of, counted, tables_in, tables_of, version_of};
+ghost use Rattle.up_graph.specs.Top.{array_of, counted, is_table, tables_in, tables_of, version_of};
+ghost use Rattle.up_graph.specs.Values.{values};
 
 use crate::GraphRefused;
 use crate::field::{both, known_alone, value_at};
@@ -34,11 +36,10 @@ pub fn check_version(table: &Table) -> Result<(), GraphRefused>
     }
 }
 
+#[tactic(auto, using(crate::proofs::Items::length_values))]
 /// An array of pipes has 1 to 256 items.
-#[tactic(auto, using(crate::proofs::Items::items_len_view))]
 fn check_count(pipes: &Array) -> Result<(), GraphRefused>
-    ensures answers { result ≡ counted (array_view pipes.now) }
-    ensures some { IfOk result (λ _. 1 ≤ vec_len pipes.now) }
+    ensures answers { result ≡ counted (values (array_view pipes.now)) }
     ensures few { IfOk result (λ _. vec_len pipes.now ≤ 256) }
 {
     if pipes.is_empty() {
@@ -52,9 +53,8 @@ fn check_count(pipes: &Array) -> Result<(), GraphRefused>
 
 /// The array at `pipe`, where one stands there.
 pub fn array_at<'a>(table: &'a Table) -> Result<Option<&'a Array>, GraphRefused>
-    ensures answers { Answers (option_map (λ pipes. array_view pipes.now)) result
+    ensures answers { Answers (option_map (λ pipes. values (array_view pipes.now))) result
         (array_of (table_view table.entry.now)) }
-    ensures some { IfOk result (λ found. IfSome found (λ pipes. 1 ≤ vec_len pipes.now)) }
     ensures few { IfOk result (λ found. IfSome found (λ pipes. vec_len pipes.now ≤ 256)) }
 {
     match value_at(table, "pipe") {
@@ -68,20 +68,15 @@ pub fn array_at<'a>(table: &'a Table) -> Result<Option<&'a Array>, GraphRefused>
 }
 
 fn are_tables(items: &Array) -> bool
-    ensures { result ≡ are_tables (array_view items.now) }
+    ensures { result ≡ list_all is_table (values (array_view items.now)) }
 {
-    for item in items {
-        if !item.is_table() {
-            return false;
-        }
-    }
-    true
+    items.iter().all(|item| item.is_table())
 }
 
 /// The tables of the pipes, where `pipe` is an array of tables.
 fn tables_in<'a>(found: Option<&'a Array>) -> Result<&'a Array, &'a str>
-    ensures answers { seen (λ pipes. array_view pipes.now) result
-        ≡ tables_in (option_map (λ pipes. array_view pipes.now) found.entry) }
+    ensures answers { seen (λ pipes. values (array_view pipes.now)) result
+        ≡ tables_in (option_map (λ pipes. values (array_view pipes.now)) found.entry) }
     ensures same { IfOk result (λ pipes. found.entry ≡ Some pipes) }
 {
     match found {
@@ -104,12 +99,12 @@ pub fn tables_at<'a>(
     table: &'a Table,
     found: Option<&'a Array>,
 ) -> Result<&'a Array, GraphRefused>
-    ensures answers { Answers (λ pipes. array_view pipes.now) result
-        (tables_of (option_map (λ pipes. array_view pipes.now) found.entry)
+    ensures answers { Answers (λ pipes. values (array_view pipes.now)) result
+        (tables_of (option_map (λ pipes. values (array_view pipes.now)) found.entry)
         (table_view table.entry.now)) }
     ensures same { IfOk result (λ pipes. found.entry ≡ Some pipes) }
 {
-    match both(known_alone(table, &TOP_FIELDS), tables_in(found)) {
+    match both(known_alone(table, &TOP_FIELDS, &[]), tables_in(found)) {
         Ok((_, pipes)) => Ok(pipes),
         Err(field) => Err(bad_field(alloc, 0, field)),
     }

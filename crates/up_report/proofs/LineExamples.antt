@@ -40,6 +40,42 @@ pub bad_field_of_a_pipe :
 unfolding digits
 bad_field_of_a_pipe = refl
 
+pub name_used_twice : fault_bytes (Graph (refusals.SameName 2)) ≡ line (codes "upipe: graph: pipe 2: name used twice")
+unfolding digits
+name_used_twice = refl
+
+pub more_than_one_input : fault_bytes (Graph (refusals.ManyInputs 2)) ≡ line (codes "upipe: graph: pipe 2: more than one input")
+unfolding digits
+more_than_one_input = refl
+
+pub unknown_input : fault_bytes (Graph (refusals.UnknownInput 2)) ≡ line (codes "upipe: graph: pipe 2: unknown input")
+unfolding digits
+unknown_input = refl
+
+pub cycle : fault_bytes (Graph (refusals.Cycle 2)) ≡ line (codes "upipe: graph: pipe 2: cycle")
+unfolding digits
+cycle = refl
+
+pub more_than_one_output : fault_bytes (Graph (refusals.ManyOutputs 2)) ≡ line (codes "upipe: graph: pipe 2: more than one output")
+unfolding digits
+more_than_one_output = refl
+
+pub no_output : fault_bytes (Graph (refusals.NoOutput 2)) ≡ line (codes "upipe: graph: pipe 2: no output")
+unfolding digits
+no_output = refl
+
+pub wrong_flow : fault_bytes (Graph (refusals.WrongFlow 2)) ≡ line (codes "upipe: graph: pipe 2: wrong flow")
+unfolding digits
+wrong_flow = refl
+
+pub path_used_twice : fault_bytes (Graph (refusals.SamePath 2)) ≡ line (codes "upipe: graph: pipe 2: path used twice")
+unfolding digits
+path_used_twice = refl
+
+pub too_many_workers : fault_bytes (Graph (refusals.TooManyWorkers 17)) ≡ line (codes "upipe: graph: too many workers: 17")
+unfolding digits
+too_many_workers = refl
+
 -- a tab, a backslash, 0x7F and the two bytes of `é`
 pub escapes :
     escaped (97 ∷ 9 ∷ 92 ∷ 127 ∷ 195 ∷ 169 ∷ 126 ∷ 32 ∷ [])

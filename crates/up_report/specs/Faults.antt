@@ -13,6 +13,15 @@ refusal_status (refusals.BadVersion got) = 3
 refusal_status refusals.NoPipes = 3
 refusal_status (refusals.TooManyPipes count) = 3
 refusal_status (refusals.BadField pipe field) = 3
+refusal_status (refusals.SameName pipe) = 3
+refusal_status (refusals.ManyInputs pipe) = 3
+refusal_status (refusals.UnknownInput pipe) = 3
+refusal_status (refusals.Cycle pipe) = 3
+refusal_status (refusals.ManyOutputs pipe) = 3
+refusal_status (refusals.NoOutput pipe) = 3
+refusal_status (refusals.WrongFlow pipe) = 3
+refusal_status (refusals.SamePath pipe) = 3
+refusal_status (refusals.TooManyWorkers count) = 3
 refusal_status refusals.NoMemory = 7
 
 abbrev pub status_of : Fault → ℕ

@@ -29,6 +29,10 @@ escaped text = flat_map escape text
 abbrev pub pipe_text : ℕ → List ℕ
 pipe_text pipe = if pipe == 0 then codes "top" else codes "pipe " ++ decimal pipe
 
+-- what is told of a pipe of a graph file
+abbrev pub told_of_pipe : ℕ → List ℕ → List ℕ
+told_of_pipe pipe words = codes "upipe: graph: " ++ pipe_text pipe ++ codes ": " ++ words
+
 -- what is told of a graph file
 abbrev pub refusal_text : GraphRefused → List ℕ
 refusal_text (refusals.TooBig len) = codes "upipe: graph: too big"
@@ -37,7 +41,16 @@ refusal_text (refusals.BadVersion got) = codes "upipe: graph: bad version"
 refusal_text refusals.NoPipes = codes "upipe: graph: no pipes"
 refusal_text (refusals.TooManyPipes count) = codes "upipe: graph: too many pipes: " ++ decimal count
 refusal_text (refusals.BadField pipe field) =
-    codes "upipe: graph: " ++ pipe_text pipe ++ codes ": bad field " ++ escaped field
+    told_of_pipe pipe (codes "bad field " ++ escaped field)
+refusal_text (refusals.SameName pipe) = told_of_pipe pipe (codes "name used twice")
+refusal_text (refusals.ManyInputs pipe) = told_of_pipe pipe (codes "more than one input")
+refusal_text (refusals.UnknownInput pipe) = told_of_pipe pipe (codes "unknown input")
+refusal_text (refusals.Cycle pipe) = told_of_pipe pipe (codes "cycle")
+refusal_text (refusals.ManyOutputs pipe) = told_of_pipe pipe (codes "more than one output")
+refusal_text (refusals.NoOutput pipe) = told_of_pipe pipe (codes "no output")
+refusal_text (refusals.WrongFlow pipe) = told_of_pipe pipe (codes "wrong flow")
+refusal_text (refusals.SamePath pipe) = told_of_pipe pipe (codes "path used twice")
+refusal_text (refusals.TooManyWorkers count) = codes "upipe: graph: too many workers: " ++ decimal count
 refusal_text refusals.NoMemory = codes "upipe: out of memory"
 
 -- what is told of a fault

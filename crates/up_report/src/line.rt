@@ -1,5 +1,5 @@
 ghost use Rattle.std.specs.Prelude.{◌≡◌, ◌++◌, ◌<◌, decimal, codes, IfOk, OnOk, OnErr};
-ghost use Rattle.up_report.specs.Lines.{hex_digit, is_plain, escape, escaped, pipe_text, refusal_text, fault_text, fault_bytes};
+ghost use Rattle.up_report.specs.Lines.{hex_digit, is_plain, escape, escaped, pipe_text, told_of_pipe, refusal_text, fault_text, fault_bytes};
 
 use crate::fault::Fault;
 use std::alloc::Global;
@@ -75,16 +75,25 @@ fn pipe_text(alloc: Global, pipe: u16) -> Result<Bytes, NoMemory>
     numbered(alloc, "pipe ", u64::from(pipe))
 }
 
-/// What is told of a wrong field.
-fn field_text(alloc: Global, pipe: u16, field: &[u8]) -> Result<Bytes, NoMemory>
-    ensures { IfOk result (λ text. text
-        ≡ codes "upipe: graph: " ++ pipe_text pipe ++ codes ": bad field " ++ escaped field.now) }
+/// What is told of a pipe of a graph file.
+fn told_of_pipe(alloc: Global, pipe: u16, words: &[u8]) -> Result<Bytes, NoMemory>
+    ensures { IfOk result (λ text. text ≡ told_of_pipe pipe words.now) }
 {
     let mut text = Bytes::from_slice(alloc, b"upipe: graph: ")?;
     text.append(pipe_text(alloc, pipe)?.as_slice())?;
-    text.append(b": bad field ")?;
-    text.append(escaped(alloc, field)?.as_slice())?;
+    text.append(b": ")?;
+    text.append(words)?;
     Ok(text)
+}
+
+/// What is told of a wrong field.
+fn field_text(alloc: Global, pipe: u16, field: &[u8]) -> Result<Bytes, NoMemory>
+    ensures { IfOk result (λ text. text
+        ≡ told_of_pipe pipe (codes "bad field " ++ escaped field.now)) }
+{
+    let mut words = Bytes::from_slice(alloc, b"bad field ")?;
+    words.append(escaped(alloc, field)?.as_slice())?;
+    told_of_pipe(alloc, pipe, words.as_slice())
 }
 
 /// What is told of a graph file.
@@ -100,6 +109,17 @@ fn refusal_text(alloc: Global, refused: &GraphRefused) -> Result<Bytes, NoMemory
             numbered(alloc, "upipe: graph: too many pipes: ", *count as u64)
         }
         GraphRefused::BadField { pipe, field } => field_text(alloc, *pipe, field.as_slice()),
+        GraphRefused::SameName { pipe } => told_of_pipe(alloc, *pipe, b"name used twice"),
+        GraphRefused::ManyInputs { pipe } => told_of_pipe(alloc, *pipe, b"more than one input"),
+        GraphRefused::UnknownInput { pipe } => told_of_pipe(alloc, *pipe, b"unknown input"),
+        GraphRefused::Cycle { pipe } => told_of_pipe(alloc, *pipe, b"cycle"),
+        GraphRefused::ManyOutputs { pipe } => told_of_pipe(alloc, *pipe, b"more than one output"),
+        GraphRefused::NoOutput { pipe } => told_of_pipe(alloc, *pipe, b"no output"),
+        GraphRefused::WrongFlow { pipe } => told_of_pipe(alloc, *pipe, b"wrong flow"),
+        GraphRefused::SamePath { pipe } => told_of_pipe(alloc, *pipe, b"path used twice"),
+        GraphRefused::TooManyWorkers { count } => {
+            numbered(alloc, "upipe: graph: too many workers: ", *count as u64)
+        }
         GraphRefused::NoMemory => Bytes::from_slice(alloc, b"upipe: out of memory"),
     }
 }

@@ -41,6 +41,42 @@ fn each_refusal_of_a_graph_has_its_line(rt: HostRuntime) -> Result<(), Fail> {
             GraphRefused::TooManyPipes { count: 257 },
             "upipe: graph: too many pipes: 257\n",
         ),
+        (
+            GraphRefused::SameName { pipe: 1 },
+            "upipe: graph: pipe 1: name used twice\n",
+        ),
+        (
+            GraphRefused::ManyInputs { pipe: 2 },
+            "upipe: graph: pipe 2: more than one input\n",
+        ),
+        (
+            GraphRefused::UnknownInput { pipe: 10 },
+            "upipe: graph: pipe 10: unknown input\n",
+        ),
+        (
+            GraphRefused::Cycle { pipe: 16 },
+            "upipe: graph: pipe 16: cycle\n",
+        ),
+        (
+            GraphRefused::ManyOutputs { pipe: 99 },
+            "upipe: graph: pipe 99: more than one output\n",
+        ),
+        (
+            GraphRefused::NoOutput { pipe: 100 },
+            "upipe: graph: pipe 100: no output\n",
+        ),
+        (
+            GraphRefused::WrongFlow { pipe: 255 },
+            "upipe: graph: pipe 255: wrong flow\n",
+        ),
+        (
+            GraphRefused::SamePath { pipe: 256 },
+            "upipe: graph: pipe 256: path used twice\n",
+        ),
+        (
+            GraphRefused::TooManyWorkers { count: 17 },
+            "upipe: graph: too many workers: 17\n",
+        ),
         (GraphRefused::NoMemory, "upipe: out of memory\n"),
     ];
     for (refused, wanted) in refusals {
@@ -108,6 +144,15 @@ fn each_fault_has_its_status(rt: HostRuntime) -> Result<(), Fail> {
     let table = [
         (Fault::Usage, 2),
         (Fault::Graph(GraphRefused::NotToml), 3),
+        (Fault::Graph(GraphRefused::SameName { pipe: 1 }), 3),
+        (Fault::Graph(GraphRefused::ManyInputs { pipe: 1 }), 3),
+        (Fault::Graph(GraphRefused::UnknownInput { pipe: 1 }), 3),
+        (Fault::Graph(GraphRefused::Cycle { pipe: 1 }), 3),
+        (Fault::Graph(GraphRefused::ManyOutputs { pipe: 1 }), 3),
+        (Fault::Graph(GraphRefused::NoOutput { pipe: 1 }), 3),
+        (Fault::Graph(GraphRefused::WrongFlow { pipe: 1 }), 3),
+        (Fault::Graph(GraphRefused::SamePath { pipe: 1 }), 3),
+        (Fault::Graph(GraphRefused::TooManyWorkers { count: 17 }), 3),
         (Fault::Graph(GraphRefused::NoMemory), 7),
         (Fault::ReadGraph, 4),
         (Fault::Read(pipe), 4),

@@ -1,5 +1,5 @@
-// What texts and fields give, worked out by hand from the rules of graph files: the kinds, paths and limits of the
-// pipes, or the refusal with its numbers.
+// What texts and fields give, worked out by hand from the rules of graph files: what is read of a pipe, or the refusal with
+// its numbers.
 
 /// What is looked at before the pipes.
 pub static TOPS: [(&str, &str); 37] = [
@@ -45,43 +45,43 @@ pub static TOPS: [(&str, &str); 37] = [
     ("version = 1\npipe = [{a = 1}, {}]", "1: kind"),
 ];
 
-/// Odd spellings of a source `a`, before a sink that takes from it.
+/// Odd spellings of a source `a`, before a sink that takes from it: what is read of the source.
 pub static SPELLINGS: [(&str, &str); 11] = [
     (
         "version = 1\n[[pipe]]\nname = 'a'\nkind = 'source'\npath = 'i'",
-        "source i 1099511627776 sink o ",
+        "source i 4096 1099511627776",
     ),
     (
         "version = 1\r\n[[pipe]]\r\nname = 'a'\r\nkind = 'source'\r\npath = 'i'\r\n",
-        "source i 1099511627776 sink o ",
+        "source i 4096 1099511627776",
     ),
     (
         "\u{feff}version = 1\n[[pipe]]\nname = 'a'\nkind = 'source'\npath = 'i'",
-        "source i 1099511627776 sink o ",
+        "source i 4096 1099511627776",
     ),
     (
         "version = 0x1 # one\n\n[[ pipe ]]\nkind='source'\nname='a'\npath='i'",
-        "source i 1099511627776 sink o ",
+        "source i 4096 1099511627776",
     ),
     (
         "'version' = 0b1\n[['pipe']]\n\"name\" = \"a\"\n'kind' = 'source'\npath = 'i'",
-        "source i 1099511627776 sink o ",
+        "source i 4096 1099511627776",
     ),
     (
         "version = 1\n[[pipe]]\nname = 'a'\nkind = 'source'\npath = \"\\u0069\"",
-        "source i 1099511627776 sink o ",
+        "source i 4096 1099511627776",
     ),
     (
         "version = 1\n[[pipe]]\nname = 'a'\nkind = 'source'\npath = \"\\x69\"",
-        "source i 1099511627776 sink o ",
+        "source i 4096 1099511627776",
     ),
     (
         "version = 1\n[[pipe]]\nname = 'a'\nkind = 'source'\npath = '''\ni'''",
-        "source i 1099511627776 sink o ",
+        "source i 4096 1099511627776",
     ),
     (
         "version = 1\n[[pipe]]\nname = 'a'\nkind = 'source'\npath = \"\"\"\\\n  i\"\"\"",
-        "source i 1099511627776 sink o ",
+        "source i 4096 1099511627776",
     ),
     (
         "version = 1\n[[pipe]]\nname = 'a'\nkind = 'source'\npath.file = 'i'",
@@ -93,63 +93,59 @@ pub static SPELLINGS: [(&str, &str); 11] = [
     ),
 ];
 
-/// The fields of pipe 1, before a sink that takes from `a`.
-pub static FIRST_PIPES: [(&str, &str); 51] = [
+/// The fields of pipe 1, before a sink that takes from `a`: what is read of it.
+pub static FIRST_PIPES: [(&str, &str); 59] = [
     (
         "name='a',kind='source',path='i'",
-        "source i 1099511627776 sink o ",
-    ),
-    (
-        "name='a',\nkind='source',\npath='i',\n",
-        "source i 1099511627776 sink o ",
+        "source i 4096 1099511627776",
     ),
     (
         "\"path\" = 'i', 'kind' = \"source\", \"n\\u0061me\" = 'a'",
-        "source i 1099511627776 sink o ",
+        "source i 4096 1099511627776",
     ),
     ("kind='source',path='i'", "1: name"),
     ("name=1,kind='source',path='i'", "1: name"),
     ("name='',kind='source',path='i'", "1: name"),
     ("name='a b',kind='source',path='i'", "1: name"),
     ("name='ä',kind='source',path='i'", "1: name"),
+    ("name=['a'],kind='source',path='i'", "1: name"),
+    ("", "1: kind"),
     ("name='a',path='i'", "1: kind"),
     ("name='a',kind=1,path='i'", "1: kind"),
     ("name='a',kind=['source'],path='i'", "1: kind"),
     ("name='a',kind='Source',path='i'", "1: kind"),
     ("name='a',kind='pump',path='i'", "1: kind"),
+    ("name='a',kind='chunk',path='i'", "1: kind"),
     ("name='a',kind='',path='i'", "1: kind"),
     ("name='a',kind='source'", "1: path"),
     ("name='a',kind='source',path=1", "1: path"),
     ("name='a',kind='source',path=['i']", "1: path"),
     ("name='a',kind='source',path=''", "1: path"),
     ("name='a',kind='source',path=\"i\\u0000\"", "1: path"),
-    (
-        "name='a',kind='source',path='i',limit=0",
-        "source i 0 sink o ",
-    ),
+    ("name='a',kind='source',path='i',limit=0", "source i 4096 0"),
     (
         "name='a',kind='source',path='i',limit=1099511627776",
-        "source i 1099511627776 sink o ",
+        "source i 4096 1099511627776",
     ),
     (
         "name='a',kind='source',path='i',limit=1_099_511_627_776",
-        "source i 1099511627776 sink o ",
+        "source i 4096 1099511627776",
     ),
     (
         "name='a',kind='source',path='i',limit=0x100_0000_0000",
-        "source i 1099511627776 sink o ",
+        "source i 4096 1099511627776",
     ),
     (
         "name='a',kind='source',path='i',limit=0o20000000000000",
-        "source i 1099511627776 sink o ",
+        "source i 4096 1099511627776",
     ),
     (
         "name='a',kind='source',path='i',limit=0b101",
-        "source i 5 sink o ",
+        "source i 4096 5",
     ),
     (
         "name='a',kind='source',path='i',limit=+5",
-        "source i 5 sink o ",
+        "source i 4096 5",
     ),
     (
         "name='a',kind='source',path='i',limit=1099511627777",
@@ -163,10 +159,6 @@ pub static FIRST_PIPES: [(&str, &str); 51] = [
         "name='a',kind='source',path='i',limit=9223372036854775808",
         "NotToml",
     ),
-    (
-        "name='a',kind='source',path='i',limit=18446744073709551616",
-        "NotToml",
-    ),
     ("name='a',kind='source',path='i',limit=-1", "1: limit"),
     (
         "name='a',kind='source',path='i',limit=-9223372036854775808",
@@ -175,89 +167,109 @@ pub static FIRST_PIPES: [(&str, &str); 51] = [
     ("name='a',kind='source',path='i',limit=5.0", "1: limit"),
     ("name='a',kind='source',path='i',limit='5'", "1: limit"),
     ("name='a',kind='source',path='i',limit=[5]", "1: limit"),
+    (
+        "name='a',kind='source',path='i',block=1",
+        "source i 1 1099511627776",
+    ),
+    (
+        "name='a',kind='source',path='i',block=1048576,limit=1",
+        "source i 1048576 1",
+    ),
+    ("name='a',kind='source',path='i',block=0", "1: block"),
+    ("name='a',kind='source',path='i',block=1048577", "1: block"),
+    (
+        "name='a',kind='source',path='i',block=4294967297",
+        "1: block",
+    ),
+    ("name='a',kind='source',path='i',block=-1", "1: block"),
+    ("name='a',kind='source',path='i',block=4096.0", "1: block"),
+    ("name='a',kind='source',path='i',block=true", "1: block"),
+    (
+        "name='a',kind='source',path='i',block=0,limit=-1",
+        "1: block",
+    ),
     ("name='a',kind='source',path='i',input='a'", "1: input"),
     ("name='a',kind='source',path='i',worker='main'", "1: worker"),
     ("name='a',kind='source',path='i',catch=[]", "1: catch"),
     ("name='a',kind='source',path='i',queue=64", "1: queue"),
     ("name='a',kind='source',path='i',select=0", "1: select"),
     ("name='a',kind='source',path='i',form='raw'", "1: form"),
-    ("name='a',kind='source',path='i',block=4096", "1: block"),
+    ("name='a',kind='source',path='i',bytes=1", "1: bytes"),
     ("name='a',kind='source',path='i',''=1", "1: "),
     ("name='a',kind='source',path='i',Path='i'", "1: Path"),
     ("name='a b',kind='source',zz=1", "1: name"),
     ("name=1,kind='source',align=1", "1: align"),
     ("name='a',kind='source',path='',limit=-1,zz=1", "1: limit"),
     ("name=1,kind='pump',align=1", "1: kind"),
-    ("name='a',kind='idem',input='x'", "1: input"),
-    ("name='a',kind='idem'", "1: input"),
-    ("name='a',kind='sink',input='a',path='o'", "1: input"),
+    ("name='a',kind='source',path='i',zz=1,za=1,b=1", "1: b"),
 ];
 
-/// The fields of pipe 2, between a source `a` and a sink that takes from `b`.
-pub static MIDDLE_PIPES: [(&str, &str); 23] = [
+/// The fields of pipe 2, between a source `a` and a sink that takes from `b`: what is read of it.
+pub static MIDDLE_PIPES: [(&str, &str); 54] = [
+    ("name='b',kind='idem',input='a'", "idem < 0"),
+    ("name='b',kind='idem',input=['a']", "idem < 0"),
+    ("name='b',kind='dup',input='a'", "dup < 0"),
+    ("name='b',kind='skip',bytes=0,input='a'", "skip 0 < 0"),
     (
-        "name='b',kind='idem',input='a'",
-        "source i 1099511627776 idem sink o ",
+        "name='b',kind='skip',bytes=1048576,input=['a']",
+        "skip 1048576 < 0",
     ),
-    ("name='b',kind='idem',input='x'", "2: input"),
-    ("name='b',kind='idem',input='b'", "2: input"),
-    ("name='b',kind='idem',input='A'", "2: input"),
-    ("name='b',kind='idem',input=''", "2: input"),
-    ("name='b',kind='idem',input=['a']", "2: input"),
-    ("name='b',kind='idem',input=['a','a']", "2: input"),
-    ("name='b',kind='idem',input=1", "2: input"),
+    (
+        "name='b',kind='delattr',attr='date.sys',input='a'",
+        "delattr date.sys < 0",
+    ),
     ("name='b',kind='idem'", "2: input"),
+    ("name='b',kind='idem',input=1", "2: input"),
+    ("name='b',kind='idem',input=[]", "2: input"),
+    ("name='b',kind='idem',input=[1]", "2: input"),
+    ("name='b',kind='idem',input=['a',1]", "2: input"),
+    ("name='b',kind='idem',input=[1,'a']", "2: input"),
+    ("name='b',kind='idem',input=[['a']]", "2: input"),
+    ("name='b',kind='idem',input={name='a'}", "2: input"),
+    ("name='b',kind='idem',input=true", "2: input"),
+    ("name='b',kind='idem',input=['a','a']", "ManyInputs 2"),
+    ("name='b',kind='idem',input=['x','y','z']", "ManyInputs 2"),
+    ("name='b',kind='idem',input='x'", "UnknownInput 2"),
+    ("name='b',kind='idem',input=['x']", "UnknownInput 2"),
+    ("name='b',kind='idem',input='A'", "UnknownInput 2"),
+    ("name='b',kind='idem',input='a '", "UnknownInput 2"),
+    ("name='b',kind='idem',input=''", "UnknownInput 2"),
+    ("name='b',kind='idem',input='b'", "Cycle 2"),
     ("kind='idem',input='a'", "2: name"),
-    ("kind='idem',input='x'", "2: input"),
-    ("name='b',kind='sink',input='a',path='p'", "2: kind"),
-    ("name='b',kind='sink',input='x',path='p'", "2: input"),
-    ("name='b',kind='sink',input='a'", "2: kind"),
-    ("name='b',kind='source',path='i'", "2: kind"),
-    ("name='b',kind='source',path='i',input='a'", "2: input"),
-    ("name='b',kind='source',path='i',limit=-1", "2: kind"),
-    ("name='b',kind='source',path='i',block=1", "2: block"),
-    ("name='b',kind='pump',block=1", "2: kind"),
+    ("kind='idem',input=[]", "2: input"),
     ("name='b',kind='idem',input='a',path='p'", "2: path"),
     ("name='b',kind='idem',input='a',limit=5", "2: limit"),
     ("name='b',kind='idem',input='a',queue=64", "2: queue"),
-    ("name='a',kind='idem',input='a'", "3: input"),
-];
-
-/// The fields of pipe 2, behind a source `a`.
-pub static LAST_PIPES: [(&str, &str); 14] = [
-    (
-        "name='b',kind='sink',input='a',path='o'",
-        "source i 1099511627776 sink o ",
-    ),
-    (
-        "name='a',kind='sink',input='a',path='i'",
-        "source i 1099511627776 sink i ",
-    ),
+    ("name='b',kind='idem',input='a',select=0", "2: select"),
+    ("name='b',kind='idem',input='a',worker='main'", "2: worker"),
+    ("name='b',kind='idem',input='a',catch=[]", "2: catch"),
+    ("name='b',kind='idem',input='a',form='raw'", "2: form"),
+    ("name='b',kind='idem',input=[],attr='k',zz=1", "2: attr"),
+    ("name='b',kind='dup',input='a',bytes=1", "2: bytes"),
+    ("name='b',kind='null',input='a',attr='k'", "2: attr"),
+    ("name='b',kind='null'", "2: input"),
+    ("name='b',kind='skip',input='a'", "2: bytes"),
+    ("name='b',kind='skip',input='a',bytes=-1", "2: bytes"),
+    ("name='b',kind='skip',input='a',bytes=1048577", "2: bytes"),
+    ("name='b',kind='skip',input='a',bytes='1'", "2: bytes"),
+    ("name='b',kind='skip',bytes=1.5", "2: bytes"),
+    ("name='b',kind='skip',input='a',bytes=1,attr='k'", "2: attr"),
+    ("name='b',kind='delattr',input='a'", "2: attr"),
+    ("name='b',kind='delattr',input='a',attr=''", "2: attr"),
+    ("name='b',kind='delattr',input='a',attr='a b'", "2: attr"),
+    ("name='b',kind='delattr',input='a',attr=1", "2: attr"),
+    ("name='b',kind='delattr',attr=1", "2: attr"),
+    ("name='b',kind='delattr',attr='k'", "2: input"),
     ("name='b',kind='sink',input='a'", "2: path"),
-    ("name='b',kind='sink',input='a',path=''", "2: path"),
-    ("name='b',kind='sink',input='a',path=1", "2: path"),
+    ("name='b',kind='sink',input=1", "2: input"),
     (
-        "name='b',kind='sink',input='a',path='o',limit=5",
-        "2: limit",
-    ),
-    (
-        "name='b',kind='sink',input='a',path='o',form='raw'",
+        "name='b',kind='sink',input='a',path='p',form='raw'",
         "2: form",
     ),
-    ("name='b',kind='sink',path='o'", "2: input"),
-    ("name='b',kind='sink',input=['a'],path='o'", "2: input"),
-    ("name='b',kind='sink',input='a.',path='o'", "2: input"),
-    ("kind='sink',input='a',path='o'", "2: name"),
-    ("name='b',kind='idem',input='a'", "2: kind"),
-    ("name='b',kind='idem',input='x'", "2: input"),
-    ("name='b',kind='source',path='i'", "2: kind"),
-];
-
-/// The fields of the one pipe of a file.
-pub static ONLY_PIPES: [(&str, &str); 5] = [
-    ("name='a',kind='source',path='i'", "1: kind"),
-    ("name='a',kind='source',path='i',input='x'", "1: input"),
-    ("name='a',kind='idem',input='a'", "1: input"),
-    ("name='a',kind='sink',input='a',path='o'", "1: input"),
-    ("", "1: kind"),
+    (
+        "name='b',kind='sink',input='a',path='p',block=1",
+        "2: block",
+    ),
+    ("name='b',kind='pump',block=1", "2: kind"),
+    ("name='b',kind='source',path='i',input='a'", "2: input"),
 ];

@@ -1,0 +1,216 @@
+-- A graph that is read is well formed.
+use Rattle.std.proofs.Common.{inl, inr, ◌≡◌, ℕ, suc, ◌≤◌, Bool, true, false, not, List, [], ◌∷◌, All, length, Option, Some, None, Result, Ok, Err, refl, arith}
+use Rattle.std.specs.Prelude.{codes, ◌&&◌, ◌==◌, nat_lt, pos, negsuc, IfOk, IfSome}
+use Rattle.std.specs.List.{list_all}
+use Rattle.std.specs.Option.{is_some}
+use Rattle.std.specs.Str.{is_utf8}
+use Rattle.std.proofs.lemmas.Bool.{and_parts, cases_Bool}
+use Rattle.std.proofs.lemmas.Bool.Decides.{nat_tests}
+use Rattle.std.proofs.lemmas.List.Elements.{All-nil, All-cons}
+use Rattle.toml.specs.Data.{Data, string, integer, array, table, Members, get_member}
+use Rattle.up_base.specs.Name.{is_name, is_within}
+use Rattle.up_graph.proofs.Found.{mapped, weaker, both_too, anything, given_too, then_too, numbered_too}
+use Rattle.up_graph.proofs.Rows.{each_kind}
+use Rattle.up_graph.specs.Answers.{Answers, Checked}
+use Rattle.up_graph.specs.Faults.{names_differ, one_input_each, faultless, told, graph_from}
+use Rattle.up_graph.specs.Field.{field_map, both, given, or_wrong}
+use Rattle.up_graph.specs.Graph.{graph_in}
+use Rattle.up_graph.specs.KindRows.{KindRow, a_kind, attr, block, bytes, limit, path, pipe_name, own_of, source_row, sink_row, skip_row, delattr_row}
+use Rattle.up_graph.specs.Pipes.{pipe_from, pipe_with, pipe_by, pipe_in, pipes_from, taken_by, input_of}
+use Rattle.up_graph.specs.Top.{array_in, array_of, counted, is_table, numbered, tables_in, tables_of, version_of}
+use Rattle.up_graph.specs.Values.{a_number, number_in, number_or, text_that, values}
+use Rattle.up_graph.specs.declared.graph_refused.GraphRefused.{GraphRefused}
+use Rattle.up_model.specs.Ends.{IsPath, is_path, is_source}
+use Rattle.up_model.specs.Kinds.{IsWithinBounds}
+use Rattle.up_model.specs.WellFormed.{IsPipe, IsWellFormed, graph_fault}
+use Rattle.up_model.specs.declared.graph.Graph.{Graph}
+use Rattle.up_model.specs.declared.graph_fault.GraphFault.{GraphFault}
+use Rattle.up_model.specs.declared.kind.Kind.{Kind}
+use Rattle.up_model.specs.declared.limits.TheConstants.{DEFAULT_BLOCK, MAX_BLOCK, MAX_LIMIT, MAX_PACKET, MAX_PIPES}
+use Rattle.up_model.specs.declared.pipe.Pipe.{Pipe}
+
+text_right : (passes : List ℕ → Bool) (found : Option Data) → IfSome (text_that passes found) (λ text. passes text ≡ true)
+text_right passes None = tt
+text_right passes (Some (string text)) =
+    elim (cases_Bool (passes text)) [
+      | inl right ↦ rw right right
+      | inr wrong ↦ rw wrong tt
+    ]
+text_right passes (Some value) = tt
+
+abbrev IsBetween : ℕ → ℕ → ℕ → Type 0
+IsBetween low high number = (low ≤ number) × (number ≤ high)
+
+number_right : (low high : ℕ) (value : Data) → IfSome (number_in low high value) (IsBetween low high)
+number_right low high (integer (pos number)) =
+    elim (cases_Bool (is_within low high number)) [
+      | inl within ↦ rw within (grind (arith, nat_tests, within), grind (arith, nat_tests, within))
+      | inr beyond ↦ rw beyond tt
+    ]
+number_right low high (integer (negsuc number)) = tt
+number_right low high value = tt
+
+number_or_right : (missing : Option ℕ) (low high : ℕ) (found : Option Data) → IfSome missing (IsBetween low high)
+    → IfSome (number_or missing low high found) (IsBetween low high)
+number_or_right missing low high None fits = fits
+number_or_right missing low high (Some value) fits = number_right low high value
+
+number_given : (key : List ℕ) (missing : Option ℕ) (low high : ℕ) (fields : Members) → IfSome missing (IsBetween low high)
+    → IfOk (given (a_number key low high missing) fields) (IsBetween low high)
+number_given key missing low high fields fits =
+    given_too key (IsBetween low high) (number_or missing low high (get_member key fields)) (number_or_right missing low high (get_member key fields) fits)
+
+path_right : (fields : Members) → IfOk (given path fields) IsPath
+path_right fields =
+    given_too path.name IsPath (path.value (get_member path.name fields)) (as_path _ (text_right (λ text. is_utf8 text && is_path text) (get_member path.name fields)))
+  where
+    as_path : (found : Option (List ℕ)) → IfSome found (λ text. (is_utf8 text && is_path text) ≡ true) → IfSome found IsPath
+    as_path None holds = tt
+    as_path (Some text) holds = and_parts (is_utf8 text) (is_path text) holds
+
+-- the fields of a kind that a row gives are within their bounds
+abbrev IsRight : KindRow → Type 0
+IsRight row = (fields : Members) → IfOk (row.kind fields) (λ kind. IsWithinBounds kind × (is_source kind ≡ row.is_source))
+
+source_right : IsRight source_row
+source_right fields =
+    mapped _ (both (given path fields) (both (given block fields) (given limit fields))) _
+    (weaker (both (given path fields) (both (given block fields) (given limit fields)))
+    (λ found. IsPath found.0 × (IsBetween 1 MAX_BLOCK found.1.0 × IsBetween 0 MAX_LIMIT found.1.1)) _ (λ found right. ((right.0, right.1.0, right.1.1.1), refl))
+    (both_too IsPath (λ numbers. IsBetween 1 MAX_BLOCK numbers.0 × IsBetween 0 MAX_LIMIT numbers.1) (given path fields) (both (given block fields) (given limit fields)) (path_right fields)
+    (both_too (IsBetween 1 MAX_BLOCK) (IsBetween 0 MAX_LIMIT) (given block fields) (given limit fields)
+    (number_given (codes "block") (Some DEFAULT_BLOCK) 1 MAX_BLOCK fields (omega arith, omega arith))
+    (number_given (codes "limit") (Some MAX_LIMIT) 0 MAX_LIMIT fields (omega arith, omega arith)))))
+
+sink_right : IsRight sink_row
+sink_right fields = mapped _ (given path fields) _ (weaker (given path fields) IsPath _ (λ path right. ((right, tt), refl)) (path_right fields))
+
+skip_right : IsRight skip_row
+skip_right fields =
+    mapped _ (given bytes fields) _ (weaker (given bytes fields) (IsBetween 0 MAX_PACKET) _ (λ number right. (right.1, refl))
+    (number_given (codes "bytes") None 0 MAX_PACKET fields tt))
+
+delattr_right : IsRight delattr_row
+delattr_right fields = mapped _ (given attr fields) _ (weaker (given attr fields) _ _ (λ attr right. (tt, refl)) (anything (given attr fields)))
+
+name_right : (fields : Members) → IfOk (given pipe_name fields) (λ name. is_name name ≡ true)
+name_right fields = given_too pipe_name.name _ (pipe_name.value (get_member pipe_name.name fields)) (text_right is_name (get_member pipe_name.name fields))
+
+taken_right : (is : Bool) (tables : List Data) (fields : Members) → IfOk (taken_by is tables fields) (λ input. is_some input ≡ not is)
+taken_right true tables fields = refl
+taken_right false tables fields = mapped Some (input_of tables fields) _ (weaker (input_of tables fields) (λ place. Unit {0}) _ (λ place holds. refl) (anything (input_of tables fields)))
+
+made : (kind : Kind) (name : List ℕ) (input : Option ℕ) → IsWithinBounds kind → is_name name ≡ true → is_some input ≡ not (is_source kind) → IsPipe (pipe_from kind name input)
+made kind name input within named taken = record {
+  name = named;
+  worker = refl;
+  input = taken;
+  select = λ number is. absurd cc;
+  queue = (omega arith, omega arith);
+  kind = within;
+}
+
+pipe_right : (row : KindRow) → IsRight row → (tables : List Data) (fields : Members) → IfOk (pipe_with row tables fields) IsPipe
+pipe_right row right tables fields =
+    let ends = both (given pipe_name fields) (taken_by row.is_source tables fields) in
+    mapped _ (both (own_of row fields) ends) IsPipe
+    (weaker (both (own_of row fields) ends) _ _
+    (λ found holds. made found.0 found.1.0 found.1.1 holds.0.0 holds.1.0 (rw holds.0.1 holds.1.1))
+    (both_too _ _ (own_of row fields) ends
+    (mapped _ (both _ (row.kind fields)) _ (weaker (both _ (row.kind fields)) _ _ (λ found holds. holds.1) (both_too (λ known. Unit {0}) _ _ (row.kind fields) (anything _) (right fields))))
+    (both_too _ _ (given pipe_name fields) (taken_by row.is_source tables fields) (name_right fields) (taken_right row.is_source tables fields))))
+
+found_right : (row : Option KindRow) → IfSome row IsRight → (key : List ℕ) (tables : List Data) (fields : Members)
+    → IfOk (pipe_by (or_wrong key row) tables fields) IsPipe
+found_right None right key tables fields = tt
+found_right (Some row) right key tables fields = pipe_right row right tables fields
+
+kind_right : (found : Option Data) → IfSome (a_kind.value found) IsRight
+kind_right = each_kind IsRight (record {
+  source = source_right;
+  sink = sink_right;
+  idem = λ fields. (tt, refl);
+  null = λ fields. (tt, refl);
+  dup = λ fields. (tt, refl);
+  skip = skip_right;
+  delattr = delattr_right;
+})
+
+value_right : (tables : List Data) (value : Data) → IfOk (pipe_in tables value) IsPipe
+value_right tables (table fields) = found_right (a_kind.value (get_member a_kind.name fields)) (kind_right (get_member a_kind.name fields)) a_kind.name tables fields
+value_right tables value = tt
+
+-- as many pipes as values, each within its bounds
+pub pipes_right : (tables : List Data) (number : ℕ) (left : List Data) → IfOk (pipes_from tables number left) (λ pipes. All IsPipe pipes × (length pipes ≡ length left))
+unfolding pipes_from
+pipes_right tables number [] = (All-nil _, refl)
+pipes_right tables number (value ∷ left) =
+    then_too (numbered number (pipe_in tables value)) _ IsPipe _ (numbered_too number (pipe_in tables value) IsPipe (value_right tables value))
+    (λ pipe is_pipe. then_too (pipes_from tables (suc number) left) _ _ _ (pipes_right tables (suc number) left)
+    (λ pipes right. (All-cons IsPipe pipe pipes is_pipe right.0, omega (arith, right.1))))
+
+pub pipes_count : (tables : List Data) (number : ℕ) (left : List Data) (pipes : List Pipe) → pipes_from tables number left ≡ Ok pipes → length pipes ≡ length left
+pipes_count tables number left pipes is = let right = rw is at (pipes_right tables number left) in right.1
+
+-- 1 to 256 of them
+abbrev AreFew : List Data → Type 0
+AreFew values = (1 ≤ length values) × (length values ≤ MAX_PIPES)
+
+counted_right : (values : List Data) → IfOk (counted values) (λ _. AreFew values)
+counted_right values =
+    elim (cases_Bool (length values == 0)) [
+      | inl none ↦ rw none tt
+      | inr some ↦ elim (cases_Bool (nat_lt MAX_PIPES (length values))) [
+        | inl many ↦ rw (some, many) tt
+        | inr few ↦ rw (some, few) (grind (arith, nat_tests, some), grind (arith, nat_tests, few))
+      ]
+    ]
+
+array_right : (found : Option Data) → IfOk (array_in found) (λ found. IfSome found AreFew)
+array_right None = tt
+array_right (Some (array items)) = then_too (counted (values items)) _ (λ _. AreFew (values items)) _ (counted_right (values items)) (λ _ few. few)
+array_right (Some value) = tt
+
+tables_right : (found : Option (List Data)) (top : Members) → IfSome found AreFew → IfOk (tables_of found top) AreFew
+tables_right found top few =
+    numbered_too 0 (field_map (λ found. found.1) (both _ (tables_in found))) AreFew
+    (mapped _ (both _ (tables_in found)) AreFew (weaker (both _ (tables_in found)) _ _ (λ pair holds. holds.1) (both_too (λ known. Unit {0}) AreFew _ (tables_in found) (anything _) (in_array found few))))
+  where
+    in_array : (found : Option (List Data)) → IfSome found AreFew → IfOk (tables_in found) AreFew
+    in_array None few = tt
+    in_array (Some values) few =
+        elim (cases_Bool (list_all is_table values)) [
+          | inl all ↦ rw all few
+          | inr not_all ↦ rw not_all tt
+        ]
+
+told_none : (fault : Option GraphFault) → IfOk (told fault) (λ _. fault ≡ None)
+told_none None = refl
+told_none (Some fault) = tt
+
+any_rule : {A : Type 0} (found : Checked A) → IfOk found (λ value. Unit {0})
+any_rule (Ok value) = tt
+any_rule (Err refused) = tt
+
+graph_right : (tables : List Data) (pipes : List Pipe) → AreFew tables → All IsPipe pipes × (length pipes ≡ length tables)
+    → IfOk (graph_from tables pipes) (λ graph. IsWellFormed graph.pipes)
+graph_right tables pipes few right =
+    then_too (names_differ pipes) _ (λ _. Unit {0}) _ (any_rule (names_differ pipes))
+    (λ _ _. then_too (one_input_each tables) _ (λ _. Unit {0}) _ (any_rule (one_input_each tables))
+    (λ _ _. then_too (faultless pipes) _ (λ _. graph_fault pipes ≡ None) _ (told_none (graph_fault pipes))
+    (λ _ none. record { some = omega (arith, few.0, right.1); few = omega (arith, few.1, right.1); each = right.0; faultless = none })))
+
+-- the graph of a document is well formed
+document_right : (top : Members) → IfOk (graph_in top) (λ graph. IsWellFormed graph.pipes)
+unfolding graph_in
+document_right top =
+    then_too (version_of top) _ (λ _. Unit {0}) _ (any_rule (version_of top))
+    (λ _ _. then_too (array_of top) _ (λ found. IfSome found AreFew) _ (array_right (get_member (codes "pipe") top))
+    (λ found few. then_too (tables_of found top) _ AreFew _ (tables_right found top few)
+    (λ tables some. then_too (pipes_from tables 1 tables) _ (λ pipes. All IsPipe pipes × (length pipes ≡ length tables)) _ (pipes_right tables 1 tables)
+    (λ pipes right. graph_right tables pipes some right))))
+
+-- what is read of a document is well formed
+pub read_right : (read : Result Graph GraphRefused) (top : Members) → Answers (λ graph. graph) read (graph_in top) → IfOk read (λ graph. IsWellFormed graph.pipes)
+read_right (Ok graph) top is = rw is at (document_right top)
+read_right (Err refused) top is = tt

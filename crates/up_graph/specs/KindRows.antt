@@ -1,0 +1,113 @@
+-- The kinds of graph files: a row a kind.
+use Rattle.std.specs.Prelude.{ℕ, Bool, true, false, List, [], ◌∷◌, ◌++◌, codes, map, Option, Some, None, option_and_then, Ok, if◌then◌else◌}
+use Rattle.std.specs.Option.{is_some}
+use Rattle.std.specs.Str.{bytes_eq}
+use Rattle.toml.specs.Data.{Data, Members, as_str}
+use Rattle.up_graph.specs.Field.{Field, field_map, both, Rule, given, known_alone}
+use Rattle.up_graph.specs.Values.{a_name, a_path, a_number, an_input}
+use Rattle.up_model.specs.declared.form.SinkForm.TheVariants as sink_forms
+use Rattle.up_model.specs.declared.form.SourceForm.TheVariants as source_forms
+use Rattle.up_model.specs.declared.kind.Kind.{Kind}
+use Rattle.up_model.specs.declared.kind.Kind.TheVariants.{Source, Sink, Idem, Null, Dup, Skip, DelAttr}
+use Rattle.up_model.specs.declared.limits.TheConstants.{DEFAULT_BLOCK, MAX_BLOCK, MAX_LIMIT, MAX_PACKET}
+
+-- a field by its name, and whether what stands there is right
+pub record FieldTest : Type 0 where
+  pub name : List ℕ
+  pub is_right : Option Data → Bool
+
+abbrev pub test_of : {A : Type 0} → Rule A → FieldTest
+test_of rule = record { name = rule.name; is_right = λ found. is_some (rule.value found) }
+
+-- a kind: whether it takes from no other pipe, its own fields, and what they give
+pub record KindRow : Type 0 where
+  pub is_source : Bool
+  pub own : List FieldTest
+  pub kind : Members → Field Kind
+
+abbrev pub path : Rule (List ℕ)
+path = a_path (codes "path")
+
+abbrev pub block : Rule ℕ
+block = a_number (codes "block") 1 MAX_BLOCK (Some DEFAULT_BLOCK)
+
+abbrev pub limit : Rule ℕ
+limit = a_number (codes "limit") 0 MAX_LIMIT (Some MAX_LIMIT)
+
+abbrev pub source_row : KindRow
+source_row = record {
+  is_source = true;
+  own = test_of path ∷ test_of block ∷ test_of limit ∷ [];
+  kind = λ table.
+      field_map (λ found. Source found.0 (source_forms.Raw found.1.0) found.1.1)
+      (both (given path table) (both (given block table) (given limit table)));
+}
+
+abbrev pub sink_row : KindRow
+sink_row = record {
+  is_source = false;
+  own = test_of path ∷ [];
+  kind = λ table. field_map (λ found. Sink found sink_forms.Raw) (given path table);
+}
+
+abbrev pub bytes : Rule ℕ
+bytes = a_number (codes "bytes") 0 MAX_PACKET None
+
+abbrev pub skip_row : KindRow
+skip_row = record {
+  is_source = false;
+  own = test_of bytes ∷ [];
+  kind = λ table. field_map Skip (given bytes table);
+}
+
+abbrev pub attr : Rule (List ℕ)
+attr = a_name (codes "attr")
+
+abbrev pub delattr_row : KindRow
+delattr_row = record {
+  is_source = false;
+  own = test_of attr ∷ [];
+  kind = λ table. field_map DelAttr (given attr table);
+}
+
+-- a kind without fields of its own
+abbrev pub plain_row : Kind → KindRow
+plain_row kind = record { is_source = false; own = []; kind = λ table. Ok kind }
+
+abbrev pub row_of : List ℕ → Option KindRow
+row_of word =
+    if bytes_eq word (codes "source") then Some source_row
+    else if bytes_eq word (codes "sink") then Some sink_row
+    else if bytes_eq word (codes "idem") then Some (plain_row Idem)
+    else if bytes_eq word (codes "null") then Some (plain_row Null)
+    else if bytes_eq word (codes "dup") then Some (plain_row Dup)
+    else if bytes_eq word (codes "skip") then Some skip_row
+    else if bytes_eq word (codes "delattr") then Some delattr_row
+    else None
+
+-- the word of a kind
+abbrev pub a_kind : Rule KindRow
+a_kind = record {
+  name = codes "kind";
+  value = λ found. option_and_then row_of (option_and_then as_str found);
+}
+
+abbrev pub pipe_name : Rule (List ℕ)
+pipe_name = a_name (codes "name")
+
+-- a source has no input
+abbrev pub inputs_of : KindRow → List FieldTest
+inputs_of row = if row.is_source then [] else test_of an_input ∷ []
+
+-- the fields that a pipe of the kind can have
+abbrev pub fields_of : KindRow → List FieldTest
+fields_of row = (test_of pipe_name ∷ test_of a_kind ∷ inputs_of row) ++ row.own
+
+abbrev pub names_of : KindRow → List (List ℕ)
+names_of row = map (λ test. test.name) (fields_of row)
+
+-- the kind that a table gives which has no fields but these
+abbrev pub own_of : KindRow → Members → Field Kind
+own_of row table =
+    field_map (λ found. found.1)
+    (both (known_alone (names_of row) table) (row.kind table))
