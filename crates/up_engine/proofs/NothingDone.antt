@@ -1,0 +1,144 @@
+-- A strand that did nothing yet owes its sinks nothing, and what it has is as it was given.
+use Rattle.std.proofs.Common.{◌≡◌, ℕ, zero, suc, ◌+◌, ◌==◌, List, [], cond, length, Bool, true, false, Option, Some, None, slice_get, refl, sym, ap, ◌∙◌, arith, inl, inr}
+use Rattle.std.specs.Io.KnownBytes.{Consumes}
+use Rattle.std.specs.Option.{option_map_or}
+use Rattle.std.proofs.KnownBytes.{Appends-nil}
+use Rattle.std.proofs.Math.Nat.{zero-div}
+use Rattle.std.proofs.lemmas.Bool.{cases_Bool}
+use Rattle.up_model.specs.Ends.{is_source}
+use Rattle.up_model.specs.Kinds.{settled_output, written_of}
+use Rattle.up_model.specs.Meaning.{bytes_by, done_by, flow_by, flow_within, shared, so_far, taken_at, taken_from, work_at}
+use Rattle.up_model.specs.Outcomes.{settled_source_flow}
+use Rattle.up_model.specs.Packet.{Flow}
+use Rattle.up_model.specs.Shares.{share_by}
+use Rattle.up_model.specs.declared.fan_out.FanOut.{FanOut}
+use Rattle.up_model.specs.declared.fan_out.FanOut.TheVariants as fans
+use Rattle.up_model.specs.declared.form.SourceForm.TheVariants as source_forms
+use Rattle.up_model.specs.declared.form.SinkForm.TheVariants as sink_forms
+use Rattle.up_model.specs.declared.kind.Kind.{Kind}
+use Rattle.up_model.specs.declared.kind.Kind.TheVariants as kinds
+use Rattle.up_model.specs.declared.pipe.Pipe.{Pipe}
+use Rattle.up_outside.specs.Counts.{CountsWhere}
+use Rattle.up_outside.specs.States.{SourceState, SinkState}
+use Rattle.up_outside.specs.Told.{Then}
+use Rattle.up_strand.proofs.Writes.{same_itself}
+use Rattle.up_strand.specs.History.{doing, to_head}
+use Rattle.up_strand.specs.StrandCalls.{SinkEnds, SourceEnds, begun, bytes_due}
+
+settled_none : (kind : Kind) → settled_output kind [] ≡ []
+settled_none (kinds.Source path form limit) = refl
+settled_none (kinds.Sink path form) = refl
+settled_none kinds.Idem = refl
+settled_none kinds.Null = refl
+settled_none kinds.Dup = refl
+settled_none (kinds.Skip bytes) = refl
+settled_none (kinds.DelAttr attr) = refl
+
+written_none : (kind : Kind) → written_of kind [] ≡ []
+written_none (kinds.Source path form limit) = refl
+written_none (kinds.Sink path sink_forms.Raw) = refl
+written_none kinds.Idem = refl
+written_none kinds.Null = refl
+written_none kinds.Dup = refl
+written_none (kinds.Skip bytes) = refl
+written_none (kinds.DelAttr attr) = refl
+
+share_none : (fan_out : FanOut) (select : Option ℕ) → share_by fan_out select [] ≡ []
+share_none fans.None select = refl
+share_none fans.One select = refl
+share_none fans.All select = refl
+share_none fans.Selected None = refl
+share_none fans.Selected (Some number) = refl
+
+-- of nothing comes nothing while the flow goes on
+done_none : (place : ℕ) (kind : Kind) (taken : Flow) → taken ≡ [] → (done_by so_far place kind taken).flow ≡ []
+done_none place (kinds.Source path form limit) taken none = none
+done_none place (kinds.Sink path form) taken none = ap (settled_output (kinds.Sink path form)) none ∙ settled_none (kinds.Sink path form)
+done_none place kinds.Idem taken none = ap (settled_output kinds.Idem) none ∙ settled_none kinds.Idem
+done_none place kinds.Null taken none = ap (settled_output kinds.Null) none ∙ settled_none kinds.Null
+done_none place kinds.Dup taken none = ap (settled_output kinds.Dup) none ∙ settled_none kinds.Dup
+done_none place (kinds.Skip bytes) taken none = ap (settled_output (kinds.Skip bytes)) none ∙ settled_none (kinds.Skip bytes)
+done_none place (kinds.DelAttr attr) taken none = ap (settled_output (kinds.DelAttr attr)) none ∙ settled_none (kinds.DelAttr attr)
+
+shared_none : (input : Option Pipe) (select : Option ℕ) (flow : Flow) → flow ≡ [] → shared input select flow ≡ []
+shared_none None select flow none = refl
+shared_none (Some input) select flow none = ap (shared (Some input) select) none ∙ share_none _ select
+
+module _ (pipes : List Pipe) (head : ℕ) where
+  from_none : (flows : ℕ → Flow) → ((place : ℕ) → flows place ≡ []) → (select input : Option ℕ) → taken_from pipes flows select input ≡ []
+  from_none flows none select None = refl
+  from_none flows none select (Some input) = shared_none (slice_get pipes input) select (flows input) (none input)
+
+  takes_none : (flows : ℕ → Flow) → ((place : ℕ) → flows place ≡ []) → (place : ℕ) (pipe : Pipe) → taken_at so_far pipes (to_head head []) flows place pipe ≡ []
+  takes_none flows none place pipe = elim (cases_Bool (place == head)) [
+    | inl here ↦ rw here refl
+    | inr other ↦ rw other (from_none flows none pipe.select pipe.input)
+  ]
+
+  work_none : (flows : ℕ → Flow) → ((place : ℕ) → flows place ≡ []) → (place : ℕ) (pipe : Option Pipe)
+      → (work_at so_far pipes (to_head head []) flows place pipe).flow ≡ []
+  work_none flows none place None = refl
+  work_none flows none place (Some pipe) = done_none place _ _ (takes_none flows none place pipe)
+
+  puts_none : (steps place : ℕ) → flow_within so_far pipes (to_head head []) steps place ≡ []
+  puts_none zero place = refl
+  puts_none (suc steps) place = work_none (flow_within so_far pipes (to_head head []) steps) (puts_none steps) place (slice_get pipes place)
+
+carried_none : (kind : Kind) → settled_source_flow kind [] ≡ []
+carried_none (kinds.Source path (source_forms.Raw block) limit) = rw (zero-div block) refl
+carried_none (kinds.Sink path form) = refl
+carried_none kinds.Idem = refl
+carried_none kinds.Null = refl
+carried_none kinds.Dup = refl
+carried_none (kinds.Skip bytes) = refl
+carried_none (kinds.DelAttr attr) = refl
+
+had_by_kind : (source : Bool) (kind : Kind) → cond source (settled_source_flow kind []) [] ≡ []
+had_by_kind true kind = carried_none kind
+had_by_kind false kind = refl
+
+had_none : (pipe : Option Pipe) → option_map_or (λ (pipe : Pipe). cond (is_source pipe.kind) (settled_source_flow pipe.kind []) []) pipe [] ≡ []
+had_none None = refl
+had_none (Some pipe) = had_by_kind (is_source pipe.kind) pipe.kind
+
+-- nothing is to be written yet
+pub nothing_due : (pipes : List Pipe) (head : ℕ) (source : Option SourceState) (told : ℕ → SinkState) (place : ℕ) (pipe : Pipe)
+    → bytes_due (begun pipes head source told) place pipe (doing None) ≡ []
+nothing_due pipes head source told place pipe =
+    ap (λ (had : Flow). bytes_by so_far pipes (to_head head had) place pipe) (had_none (slice_get pipes head))
+    ∙ ap (written_of pipe.kind) (takes_none pipes head (flow_by so_far pipes (to_head head [])) (λ p. puts_none pipes head (length pipes) p) place pipe)
+    ∙ written_none pipe.kind
+
+uncounted : (count : ℕ) → CountsWhere false count count
+uncounted count = record { later = omega arith; rose = λ wrong. absurd (cc); stays = λ is. refl }
+
+-- a source of which nothing was read, and a sink that was given nothing
+pub source_unread : (pipes : List Pipe) (head : ℕ) (told : ℕ → SinkState) (start : SourceState) → SourceEnds (begun pipes head (Some start) told) start
+source_unread pipes head told start = record {
+  start = start;
+  told = refl;
+  took = record { bytes_of = consumes_none start.left; sum = same_sum start.moved; place = refl };
+  faults = uncounted start.faults;
+  whole = λ is. absurd (cc);
+}
+  where
+    consumes_none : (left : Option (List ℕ)) → Consumes left left []
+    consumes_none None = tt
+    consumes_none (Some bytes) = refl
+
+    same_sum : (moved : Option ℕ) → Then (λ before after. after ≡ before + 0) moved moved
+    same_sum None = tt
+    same_sum (Some count) = omega arith
+
+pub sink_ungiven : (pipes : List Pipe) (head : ℕ) (source : Option SourceState) (told : ℕ → SinkState) (place : ℕ) (pipe : Pipe)
+    → SinkEnds (begun pipes head source told) place pipe (told place)
+sink_ungiven pipes head source told place pipe =
+    let due = nothing_due pipes head source told place pipe in
+    record {
+      put = [];
+      appended = Appends-nil (told place).written;
+      first = (bytes_due (begun pipes head source told) place pipe (doing None), refl);
+      all = λ long works. sym due;
+      faults = uncounted (told place).faults;
+      same = same_itself (told place);
+    }

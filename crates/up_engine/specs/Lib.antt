@@ -1,0 +1,14 @@
+pub mod Begun
+pub mod Carried
+pub mod Counting
+pub mod Entries
+pub mod Flows
+pub mod Joins
+pub mod Making
+pub mod Moves
+pub mod Nets
+pub mod Objects
+pub mod Parts
+pub mod Rooms
+pub mod Runs
+pub mod Tables

@@ -1,0 +1,147 @@
+ghost use Rattle.std.specs.Prelude.{◌≡◌, ℕ, List, length, IfSome, OnOk};
+ghost use Rattle.up_engine.specs.Carried.{CarriedBy, CarriedShort};
+ghost use Rattle.up_engine.specs.Entries.{path_places};
+ghost use Rattle.up_engine.specs.Objects.{AreOpen, AreThere};
+ghost use Rattle.up_engine.specs.Rooms.{AreRoomsOf, EndsRun, HaveRoomFor};
+ghost use Rattle.up_engine.specs.Runs.{RanGraph, Ways, fault_of};
+ghost use Rattle.up_model.specs.WellFormed.{IsWellFormed};
+ghost use Rattle.up_outside.specs.declared.asked.Entry.{Entry as TheEntry};
+ghost use Rattle.up_plan.specs.Plan.{plan_of};
+ghost use Rattle.up_shape.specs.Stores.{Stays};
+
+use crate::carrying::carry;
+use crate::closing::close_all;
+use crate::object::Object;
+use crate::opening::{Opening, open_all};
+use crate::results::Results;
+use crate::rooms::{Rooms, any_no_memory};
+use crate::run_outcome::RunOutcome;
+use std::alloc::Global;
+use up_base::NoMemory;
+use up_model::{Graph, Kind, Outcome};
+use up_outside::{Depot, Sink, Source};
+use up_plan::Plan;
+use up_shape::LocalPacket;
+
+/// Runs a graph over the depot on this thread: opens its sources, then its sinks, in the order of
+/// the file, carries what the sources give, and closes sources, then sinks. Where an open is
+/// refused, what was opened is closed, and nothing runs.
+pub fn run_one_thread<P: LocalPacket, D: Depot>(
+    alloc: Global,
+    graph: &Graph,
+    depot: &mut D,
+    store: &mut P::Store,
+) -> RunOutcome
+    requires well_formed { IsWellFormed graph.now.pipes }
+    ensures ran { RanGraph graph.now.pipes (D.state depot.old) (D.state depot.new)
+        (P.Store.state store.old) (P.Store.state store.new) result }
+    ensures store { Stays (P.Store.state store.old) (P.Store.state store.new) }
+{
+    match Rooms::of(alloc, graph) {
+        Ok(rooms) => run_in::<P, D>(alloc, graph, depot, store, rooms),
+        Err(NoMemory) => RunOutcome::NoMemory,
+    }
+}
+
+/// Runs the graph in room that was taken beforehand.
+fn run_in<P: LocalPacket, D: Depot>(
+    alloc: Global,
+    graph: &Graph,
+    depot: &mut D,
+    store: &mut P::Store,
+    mut rooms: Rooms<D::Src, D::Snk>,
+) -> RunOutcome
+    requires well_formed { IsWellFormed graph.now.pipes }
+    requires rooms { AreRoomsOf graph.now.pipes rooms }
+    ensures ran { RanGraph graph.now.pipes (D.state depot.old) (D.state depot.new)
+        (P.Store.state store.old) (P.Store.state store.new) result }
+    ensures store { Stays (P.Store.state store.old) (P.Store.state store.new) }
+{
+    match open_all(graph, &rooms.order, depot, &mut rooms.table) {
+        Opening::All => {
+            let carried = carry_all::<P, D::Src, D::Snk>(
+                alloc,
+                graph,
+                &rooms.plan,
+                &mut rooms.table,
+                &mut rooms.results,
+                store,
+            );
+            end_run(graph, depot, rooms, carried)
+        }
+        Opening::Refused { place } => {
+            let at = usize::from(place);
+            rooms.results.outcomes[at] = refused(&graph.pipes.at(at).kind);
+            end_run(graph, depot, rooms, Ok(()))
+        }
+        Opening::NoMemory => end_run(graph, depot, rooms, Err(NoMemory)),
+    }
+}
+
+/// Carries what the sources give. Want of memory of which an outcome tells is that of the run.
+fn carry_all<P: LocalPacket, S: Source, K: Sink>(
+    alloc: Global,
+    graph: &Graph,
+    plan: &Plan,
+    table: &mut [Object<S, K>],
+    results: &mut Results,
+    store: &mut P::Store,
+) -> Result<(), NoMemory>
+    requires well_formed { IsWellFormed graph.now.pipes }
+    requires plan { plan.now ≡ plan_of graph.now.pipes }
+    requires there { AreThere S.state K.state graph.now.pipes
+        (length (path_places graph.now.pipes)) table.old }
+    requires outcomes { length results.old.outcomes.items ≡ length graph.now.pipes }
+    requires tallies { length results.old.tallies.items ≡ length graph.now.pipes }
+    ensures through { OnOk result ((ways : Ways) × CarriedBy S.state K.state graph.now.pipes
+        table.old table.new ways results.new (P.Store.state store.old) (P.Store.state store.new)) }
+    ensures short { CarriedShort S.state K.state graph.now.pipes table.old table.new }
+    ensures outcomes { length results.new.outcomes.items ≡ length graph.now.pipes }
+    ensures tallies { length results.new.tallies.items ≡ length graph.now.pipes }
+    ensures store { Stays (P.Store.state store.old) (P.Store.state store.new) }
+{
+    carry::<P, S, K>(alloc, graph, plan, table, results, store)?;
+    if any_no_memory(&results.outcomes) {
+        return Err(NoMemory);
+    }
+    Ok(())
+}
+
+/// Closes what is open, and answers.
+fn end_run<D: Depot>(
+    graph: &Graph,
+    depot: &mut D,
+    mut rooms: Rooms<D::Src, D::Snk>,
+    carried: Result<(), NoMemory>,
+) -> RunOutcome
+    requires well_formed { IsWellFormed graph.now.pipes }
+    requires order { rooms.order.items ≡ path_places graph.now.pipes }
+    requires there { (count : ℕ)
+        × AreThere D.Src.state D.Snk.state graph.now.pipes count rooms.table.items
+        × IfSome (D.state depot.old).asked (λ asked. (first : List TheEntry)
+        × AreOpen D.Src.state D.Snk.state graph.now.pipes count rooms.table.items first asked) }
+    requires room { HaveRoomFor graph.now.pipes rooms }
+    ensures { (count : ℕ)
+        → AreThere D.Src.state D.Snk.state graph.now.pipes count rooms.table.items
+        → EndsRun D.Src.state D.Snk.state graph.now.pipes count rooms carried (D.state depot.old)
+        (D.state depot.new) result }
+{
+    close_all(
+        graph,
+        &rooms.order,
+        depot,
+        &mut rooms.table,
+        &mut rooms.results.outcomes,
+    );
+    rooms.end(carried)
+}
+
+/// The fault of a pipe whose path couldn't be opened.
+fn refused(kind: &Kind) -> Outcome
+    ensures { result ≡ fault_of kind.now }
+{
+    match kind {
+        Kind::Source { .. } => Outcome::ReadFault,
+        _ => Outcome::WriteFault,
+    }
+}
