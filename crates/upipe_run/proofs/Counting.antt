@@ -5,7 +5,7 @@ use Rattle.up_outside.specs.Counts.{Rose, CountsWhere}
 use Rattle.up_outside.specs.States.{SinkState}
 use Rattle.up_outside.specs.Told.{Then}
 use Rattle.up_outside.proofs.Told.{Then-trans, summed_on}
-use Rattle.upipe_run.specs.Flow.{IsSameSink}
+use Rattle.upipe_run.specs.Filling.{IsSameSink}
 
 -- a count that stays
 pub stays : (failed : Bool) (before now : ℕ) → failed ≡ false → now ≡ before → CountsWhere failed before now

@@ -1,34 +1,49 @@
 -- What follows of what a run does.
-use Rattle.std.proofs.Common.{◌≡◌, ◌⊎◌, inl, inr, ℕ, List, slice_get, Option, Some, None, IfSome, Result, Ok, Err, refl, sym, ap, ◌∙◌, arith}
+use Rattle.std.proofs.Common.{◌≡◌, ◌⊎◌, inl, inr, ℕ, ◌+◌, ◌<◌, ◌≤◌, List, [], ◌∷◌, ◌++◌, length, map, true, false, Bool, slice_get, Option, Some, None, IfSome, Result, Ok, Err, refl, sym, ap, subst, ◌∙◌, arith, append_assoc, length-append}
 use Rattle.std.specs.FinMap.{get}
+use Rattle.std.specs.List.{All, Contains}
+use Rattle.std.proofs.lemmas.Bool.{cases_lt, lt-ltb, le-ltb}
+use Rattle.std.proofs.lemmas.List.Elements.{All-contains, All-contains_itself, All-weaker, All-head, All-tail}
+use Rattle.up_base.specs.Lists.{IsPrefix}
+use Rattle.up_engine.specs.Entries.{entries_at, entry_at, path_places}
+use Rattle.up_engine.specs.Runs.{Marked, RanGraph, RanThrough, Ways}
 use Rattle.up_graph.specs.Graph.{graph_of}
 use Rattle.up_graph.specs.declared.graph_refused.GraphRefused.{GraphRefused}
 use Rattle.up_graph.specs.declared.graph_refused.GraphRefused.TheVariants as refusals
+use Rattle.up_model.proofs.WellFormed.{there}
 use Rattle.up_model.specs.Outcomes.{outcome_of}
 use Rattle.up_model.specs.declared.form.SourceForm.{SourceForm}
+use Rattle.up_model.specs.declared.form.SourceForm.TheVariants.{Raw}
 use Rattle.up_model.specs.declared.graph.Graph.{Graph}
 use Rattle.up_model.specs.declared.kind.Kind.{Kind}
 use Rattle.up_model.specs.declared.kind.Kind.TheVariants.{Source}
+use Rattle.up_model.specs.declared.outcome.Outcome.{Outcome}
 use Rattle.up_model.specs.declared.outcome.Outcome.TheVariants as outcomes
+use Rattle.up_model.specs.declared.pipe.Pipe.{Pipe}
+use Rattle.up_outside.specs.Asked.{entry}
+use Rattle.up_outside.specs.Counts.{Rose}
 use Rattle.up_outside.specs.Held.{Held}
 use Rattle.up_outside.specs.Told.{Then}
 use Rattle.up_outside.specs.declared.asked.Entry.{Entry}
+use Rattle.up_outside.specs.declared.asked.Mark.{Mark}
+use Rattle.up_outside.specs.declared.asked.Mark.TheVariants.{Refused, Open, Closed}
+use Rattle.up_outside.specs.declared.asked.Side.TheVariants as sides
 use Rattle.up_report.specs.Faults.{status_of}
+use Rattle.up_report.specs.declared.fault.Fault.{Fault}
 use Rattle.up_report.specs.declared.fault.Fault.TheVariants as faults
-use Rattle.upipe_run.specs.Asks.{AsksRun}
-use Rattle.upipe_run.specs.Causes.{HasBytesCause, HasNoGraph, HasOutcome, IsGraphEnding}
-use Rattle.upipe_run.specs.Counts.{CountsRun}
-use Rattle.upipe_run.specs.Endings.{IsOfText, IsRunEnding}
-use Rattle.upipe_run.specs.Laws.{IsRunStatus, SettlesStatus, Completes, AsksAll}
+use Rattle.upipe_run.specs.Endings.{IsOfText, ending_of}
+use Rattle.upipe_run.specs.GraphText.{AsksText}
+use Rattle.upipe_run.specs.Laws.{AsksAll, Completes, IsRunStatus, OpensAll, SettlesStatus}
 use Rattle.upipe_run.specs.OfGraph.{WithoutGraph}
-use Rattle.upipe_run.specs.Runs.{Runs}
+use Rattle.upipe_run.specs.Runs.{HasCauses, HasGraph, HasNoGraph, RanFile, Runs}
 use Rattle.upipe_run.specs.Seen.{Seen}
 use Rattle.upipe_run.specs.Tells.{TellsEnding}
 use Rattle.upipe_run.specs.WholeOutput.{IsWholeSource, CanComplete}
 use Rattle.upipe_run.specs.declared.ending.Ending.{Ending}
 use Rattle.upipe_run.specs.declared.ending.Ending.TheVariants.{Whole, Faulty, NoMemory}
-use Rattle.up_outside.proofs.Told.{Then-map, always}
-use Rattle.upipe_run.proofs.Stops.{all_asked, all_clean}
+use Rattle.up_outside.proofs.Told.{Then-map, Then-trans, always}
+use Rattle.upipe_run.proofs.Decided.{RanLong, ran_long, read_rose, write_rose}
+use Rattle.upipe_run.proofs.RanFiles.{WentThrough, paths_within, whole_through}
 
 same_bytes : (a b : List ℕ) → Some a ≡ Some b → a ≡ b
 same_bytes a b same = cc
@@ -39,143 +54,208 @@ ok_is_no_refusal graph refusal same = cc
 same_graph : (a b : Graph) → ◌≡◌ {A = Result Graph GraphRefused} (Ok a) (Ok b) → a ≡ b
 same_graph a b same = cc
 
-whole_is_not_long : (limit : ℕ) → outcomes.Whole ≡ outcomes.TooLong limit → ⊥
-whole_is_not_long limit same = cc
+-- one text at the path has one graph
+one_graph : (before : Held) (path text : List ℕ) (graph other : Graph) → HasGraph before path graph → get before path ≡ Some text → graph_of text ≡ Ok other → graph ≡ other
+one_graph before path text graph other has at reads =
+    let same : has.text ≡ text = same_bytes has.text text (sym has.at_path ∙ at) in
+    same_graph graph other (sym has.reads ∙ ap graph_of same ∙ reads)
 
 -- the text has a graph and has none
+not_both : (before : Held) (path text : List ℕ) (graph : Graph) (refusal : GraphRefused) → HasGraph before path graph → get before path ≡ Some text → graph_of text ≡ Err refusal → ⊥
+not_both before path text graph refusal has at refused =
+    let same : has.text ≡ text = same_bytes has.text text (sym has.at_path ∙ at) in
+    ok_is_no_refusal graph refusal (sym has.reads ∙ ap graph_of same ∙ refused)
+
 not_refused : (before : Held) (path : List ℕ) (refusal : GraphRefused) → HasNoGraph before path refusal → CanComplete before path → ⊥
 not_refused before path refusal none can =
-    let same : none.text ≡ can.text = same_bytes none.text can.text (sym none.at_path ∙ can.at_path) in
-    ok_is_no_refusal can.graph none.first (sym can.reads ∙ ap graph_of (sym same) ∙ none.refused)
+    not_both before path none.text can.graph none.first (record { text = can.text; at_path = can.at_path; reads = can.reads }) none.at_path none.refused
 
--- a source is whole and too long
-source_not_long : (before : Held) (kind : Kind) (path bytes : List ℕ) (form : SourceForm) (limit most : ℕ) → kind ≡ Source path form limit → get before path ≡ Some bytes
-    → outcome_of kind bytes ≡ outcomes.TooLong most → IsWholeSource before kind → ⊥
-source_not_long before kind path bytes form limit most is at long whole =
+-- a source gave more than its limit of bytes that are within it
+source_not_long : (before : Held) (kind : Kind) (path bytes given : List ℕ) (form : SourceForm) (limit : ℕ) → kind ≡ Source path form limit → get before path ≡ Some bytes
+    → IsPrefix given bytes → limit < length given → IsWholeSource before kind → ⊥
+source_not_long before kind path bytes given (Raw block) limit is at prefix long whole =
     let here = rw is at whole in
     let same : here.0 ≡ bytes = same_bytes here.0 bytes (sym here.1 ∙ at) in
-    whole_is_not_long most (sym here.2 ∙ ap (outcome_of (Source path form limit)) same ∙ ap (λ k. outcome_of k bytes) (sym is) ∙ long)
+    let more : limit < length bytes = omega (arith, long, ap length prefix.1, length-append given prefix.0) in
+    let wrong : outcomes.TooLong limit ≡ outcomes.Whole = rw (lt-ltb limit (length bytes) more) at (rw same at here.2) in
+    cc
 
-not_long : (before : Held) (path : List ℕ) (limit : ℕ) (graph : Graph) (text : List ℕ) → get before path ≡ Some text → graph_of text ≡ Ok graph
-    → HasOutcome before graph.pipes 0 limit (outcomes.TooLong limit) → CanComplete before path → ⊥
-not_long before path limit graph text at reads long can =
-    let text_same : text ≡ can.text = same_bytes text can.text (sym at ∙ can.at_path) in
-    let graph_same : graph ≡ can.graph = same_graph graph can.graph (sym reads ∙ ap graph_of text_same ∙ can.reads) in
-    source_not_long before long.pipe.kind long.path long.bytes long.form limit limit long.source long.at_source long.outcome_is
-    (can.so 0 long.pipe (ap (λ (g : Graph). slice_get g.pipes 0) (sym graph_same) ∙ long.at))
+-- what is so of what is told
+of_told : (P : Held → Type 0) (held : Option Held) (before : Held) → held ≡ Some before → IfSome held P → P before
+of_told P held before is so = rw is at so
+
+abbrev moved_by : Mark → ℕ
+moved_by Refused = 0
+moved_by Open = 0
+moved_by (Closed moved failed shut) = moved
+
+same_entries : (f g : ℕ → Entry) (places : List ℕ) → All (λ place. f place ≡ g place) places → map f places ≡ map g places
+same_entries f g [] same = refl
+same_entries f g (place ∷ places) same =
+    let first = All-head (λ place. f place ≡ g place) place places same in
+    let later = same_entries f g places (All-tail (λ place. f place ≡ g place) place places same) in
+    rw (first, later) refl
+
+module _ (pipes : List Pipe) (ways : Ways) (marks : ℕ → Mark) where
+  -- every mark says that its entry is closed
+  abbrev closed_as : ℕ → Mark
+  closed_as place = Closed (moved_by (marks place)) (ways.failed place) (ways.shut place)
+
+  same_mark : (place : ℕ) (pipe : Pipe) → Marked pipes ways marks place pipe → marks place ≡ closed_as place
+  same_mark place pipe marked = rw marked.is refl
+
+  all_closed : ((place : ℕ) (pipe : Pipe) → slice_get pipes place ≡ Some pipe → Contains (path_places pipes) place → Marked pipes ways marks place pipe)
+      → entries_at pipes marks (path_places pipes) ≡ entries_at pipes closed_as (path_places pipes)
+  all_closed told = same_entries _ _ (path_places pipes) (All-weaker (Contains (path_places pipes)) _
+      (λ place is.
+      let pipe = there pipes place (All-contains (λ place. place < length pipes) (path_places pipes) place (paths_within pipes) is) in
+      ap (entry_at pipes place) (same_mark place pipe.0 (told place pipe.0 pipe.1 is)))
+      (path_places pipes) (All-contains_itself (path_places pipes)))
 
 module _ (path : List ℕ) (old new : Seen) where
-  abbrev Bytes : Held → Ending → Type 0
-  Bytes before ending = HasBytesCause path old.depot new.depot before ending
+  -- the counts after the graph file was read are those before
+  read_before : (ending : Ending) (ran : RanFile path old.depot new.depot ending) → (ran.mid.source_faults ≡ old.depot.source_faults) × (ran.mid.sink_faults ≡ old.depot.sink_faults)
+  read_before ending ran = (ran.read.counts.sources.stays refl, ran.read.counts.sinks.stays refl)
+
+  -- no source is too long
+  none_long : (before : Held) (name : List ℕ) (limit : ℕ) → old.depot.held ≡ Some before → RanFile path old.depot new.depot (Faulty (faults.TooLong name limit)) → CanComplete before path → ⊥
+  none_long before name limit told ran can =
+      let long = ran_long ran.graph.pipes ran.mid new.depot ran.drew ran.draws ran.outcome ran.ran name limit ran.so in
+      let same : ran.graph ≡ can.graph = one_graph before path can.text ran.graph can.graph (rw told at ran.of_text) can.at_path can.reads in
+      let gave = of_told _ ran.mid.held before (ran.read.held ∙ told) long.run.through.gave long.place long.pipe long.at (rw long.source.is refl) in
+      let gives = gave.there long.source.path (rw long.source.is refl) in
+      source_not_long before long.pipe.kind long.source.path gives.0 (long.run.ways.given long.place) long.source.form limit long.source.is gives.1 gives.2 long.source.long
+      (can.so long.place long.pipe (ap (λ (g : Graph). slice_get g.pipes long.place) (sym same) ∙ long.at))
 
   -- where nothing failed, a run that isn't whole lacked memory
-  lacks_memory : (before : Held) (ending : Ending) (status : ℕ) → Bytes before ending → CountsRun old.depot new.depot ending → TellsEnding old.err new.err ending status
+  lacks_memory : (before : Held) (ending : Ending) (status : ℕ) → old.depot.held ≡ Some before → HasCauses path old.depot new.depot ending → TellsEnding old.err new.err ending status
       → Completes path old new status before
-  lacks_memory before Whole status bytes counts tells can sources sinks = inl tells.0
-  lacks_memory before NoMemory status bytes counts tells can sources sinks = inr tells.status_is
-  lacks_memory before (Faulty faults.Usage) status bytes counts tells can sources sinks = absurd bytes
-  lacks_memory before (Faulty (faults.Graph refusal)) status bytes counts tells can sources sinks = absurd (not_refused before path refusal bytes can)
-  lacks_memory before (Faulty faults.ReadGraph) status bytes counts tells can sources sinks = absurd (sources (counts.sources.rose refl))
-  lacks_memory before (Faulty (faults.Read name)) status bytes counts tells can sources sinks = absurd (sources (counts.sources.rose refl))
-  lacks_memory before (Faulty (faults.Write name)) status bytes counts tells can sources sinks = absurd (sinks (counts.sinks_rose refl))
-  lacks_memory before (Faulty faults.WriteReport) status bytes counts tells can sources sinks = absurd bytes
-  lacks_memory before (Faulty (faults.BadFrame name offset)) status bytes counts tells can sources sinks = absurd bytes
-  lacks_memory before (Faulty (faults.TooLong name limit)) status bytes counts tells can sources sinks =
-      absurd (not_long before path limit bytes.graph bytes.text bytes.at_path bytes.reads bytes.so.1 can)
+  lacks_memory before Whole status told causes tells can sources sinks = inl tells.0
+  lacks_memory before NoMemory status told causes tells can sources sinks = inr tells.status_is
+  lacks_memory before (Faulty faults.Usage) status told causes tells can sources sinks = absurd causes
+  lacks_memory before (Faulty (faults.Graph refusal)) status told causes tells can sources sinks = absurd (not_refused before path refusal (rw told at causes.first) can)
+  lacks_memory before (Faulty faults.ReadGraph) status told causes tells can sources sinks = absurd (sources (causes.counts.sources.rose refl))
+  lacks_memory before (Faulty (faults.Read name)) status told causes tells can sources sinks =
+      absurd (sources (rw (read_before _ causes).0 at (read_rose causes.graph.pipes causes.mid new.depot causes.drew causes.draws causes.outcome causes.ran name causes.so)))
+  lacks_memory before (Faulty (faults.Write name)) status told causes tells can sources sinks =
+      absurd (sinks (rw (read_before _ causes).1 at (write_rose causes.graph.pipes causes.mid new.depot causes.drew causes.draws causes.outcome causes.ran name causes.so)))
+  lacks_memory before (Faulty faults.WriteReport) status told causes tells can sources sinks = absurd causes
+  lacks_memory before (Faulty (faults.BadFrame name offset)) status told causes tells can sources sinks = absurd causes
+  lacks_memory before (Faulty (faults.TooLong name limit)) status told causes tells can sources sinks = absurd (none_long before name limit told causes can)
+
+  -- what is so where it is told what is held
+  where_held : (P : Held → Type 0) → ((before : Held) → old.depot.held ≡ Some before → P before) → IfSome old.depot.held P
+  where_held P so = by old.depot.held so
+    where
+      by : (held : Option Held) → ((before : Held) → held ≡ Some before → P before) → IfSome held P
+      by None so = tt
+      by (Some before) so = so before refl
 
   pub completes : (status : ℕ) → Runs path old new status → IfSome old.depot.held (Completes path old new status)
-  completes status runs = told old.depot.held runs.explained.causes.bytes
-    where
-      told : (h : Option Held) → IfSome h (λ before. Bytes before runs.explained.ending) → IfSome h (Completes path old new status)
-      told None bytes = tt
-      told (Some before) bytes = lacks_memory before runs.explained.ending status bytes runs.explained.causes.counts runs.explained.fault_text
+  completes status runs =
+      where_held (Completes path old new status) (λ before told. lacks_memory before runs.explained.ending status told runs.explained.causes runs.explained.fault_text)
 
   refusal_status : (refusal : GraphRefused) (status : ℕ) → IsOfText refusal → (status ≡ status_of (faults.Graph refusal)) ⊎ (status ≡ 7) → (status ≡ 3) ⊎ (status ≡ 7)
+  refusal_status refusals.NoMemory status of_text is = absurd of_text
+  refusal_status refusal status of_text (inl same) = inl same
   refusal_status refusal status of_text (inr seven) = inr seven
-  refusal_status (refusals.TooBig count) status of_text (inl same) = inl same
-  refusal_status refusals.NotToml status of_text (inl same) = inl same
-  refusal_status (refusals.BadVersion got) status of_text (inl same) = inl same
-  refusal_status refusals.NoPipes status of_text (inl same) = inl same
-  refusal_status (refusals.TooManyPipes count) status of_text (inl same) = inl same
-  refusal_status (refusals.BadField pipe field) status of_text (inl same) = inl same
-  refusal_status refusals.NoMemory status of_text (inl same) = absurd of_text
 
-  of_status : (ending : Ending) (status : ℕ) → IsRunEnding ending → TellsEnding old.err new.err ending status → IsRunStatus status
-  of_status Whole status of_run tells = inl tells.0
-  of_status NoMemory status of_run tells = inr (inr (inr (inr (inl tells.status_is))))
-  of_status (Faulty faults.Usage) status of_run tells = absurd of_run
-  of_status (Faulty (faults.Graph refusal)) status of_run tells =
-      elim (refusal_status refusal status of_run tells.status_is) [ inl three ↦ inr (inl three) | inr seven ↦ inr (inr (inr (inr (inl seven)))) ]
-  of_status (Faulty faults.ReadGraph) status of_run tells =
+  of_status : (ending : Ending) (status : ℕ) → HasCauses path old.depot new.depot ending → TellsEnding old.err new.err ending status → IsRunStatus status
+  of_status Whole status causes tells = inl tells.0
+  of_status NoMemory status causes tells = inr (inr (inr (inr (inl tells.status_is))))
+  of_status (Faulty faults.Usage) status causes tells = absurd causes
+  of_status (Faulty (faults.Graph refusal)) status causes tells =
+      elim (refusal_status refusal status causes.of_text tells.status_is) [ inl three ↦ inr (inl three) | inr seven ↦ inr (inr (inr (inr (inl seven)))) ]
+  of_status (Faulty faults.ReadGraph) status causes tells =
       elim tells.status_is [ inl same ↦ inr (inr (inl same)) | inr seven ↦ inr (inr (inr (inr (inl seven)))) ]
-  of_status (Faulty (faults.Read name)) status of_run tells =
+  of_status (Faulty (faults.Read name)) status causes tells =
       elim tells.status_is [ inl same ↦ inr (inr (inl same)) | inr seven ↦ inr (inr (inr (inr (inl seven)))) ]
-  of_status (Faulty (faults.Write name)) status of_run tells =
+  of_status (Faulty (faults.Write name)) status causes tells =
       elim tells.status_is [ inl same ↦ inr (inr (inr (inl same))) | inr seven ↦ inr (inr (inr (inr (inl seven)))) ]
-  of_status (Faulty faults.WriteReport) status of_run tells = absurd of_run
-  of_status (Faulty (faults.BadFrame name offset)) status of_run tells = absurd of_run
-  of_status (Faulty (faults.TooLong name limit)) status of_run tells =
+  of_status (Faulty faults.WriteReport) status causes tells = absurd causes
+  of_status (Faulty (faults.BadFrame name offset)) status causes tells = absurd causes
+  of_status (Faulty (faults.TooLong name limit)) status causes tells =
       elim tells.status_is [ inl same ↦ inr (inr (inr (inr (inr same)))) | inr seven ↦ inr (inr (inr (inr (inl seven)))) ]
 
   pub has_status : (status : ℕ) → Runs path old new status → IsRunStatus status
-  has_status status runs = of_status runs.explained.ending status runs.explained.causes.of_run runs.explained.fault_text
+  has_status status runs = of_status runs.explained.ending status runs.explained.causes runs.explained.fault_text
 
-  settled : (ending : Ending) (status : ℕ) → IsRunEnding ending → IsGraphEnding ending → TellsEnding old.err new.err ending status → (status ≡ 3) ⊎ ((status ≡ 4) ⊎ (status ≡ 7))
-  settled Whole status of_run is tells = absurd is
-  settled NoMemory status of_run is tells = inr (inr tells.status_is)
-  settled (Faulty faults.Usage) status of_run is tells = absurd is
-  settled (Faulty (faults.Graph refusal)) status of_run is tells = elim (refusal_status refusal status of_run tells.status_is) [ inl three ↦ inl three | inr seven ↦ inr (inr seven) ]
-  settled (Faulty faults.ReadGraph) status of_run is tells = inr tells.status_is
-  settled (Faulty (faults.Read name)) status of_run is tells = absurd is
-  settled (Faulty (faults.Write name)) status of_run is tells = absurd is
-  settled (Faulty faults.WriteReport) status of_run is tells = absurd is
-  settled (Faulty (faults.BadFrame name offset)) status of_run is tells = absurd is
-  settled (Faulty (faults.TooLong name limit)) status of_run is tells = absurd is
+  module _ (before : Held) (told : old.depot.held ≡ Some before) (text : List ℕ) (refusal : GraphRefused) (at : get before path ≡ Some text)
+      (refused : graph_of text ≡ Err refusal) where
+    no_run : (ending : Ending) → RanFile path old.depot new.depot ending → ⊥
+    no_run ending ran = not_both before path text ran.graph refusal (rw told at ran.of_text) at refused
+
+    settled : (ending : Ending) (status : ℕ) → HasCauses path old.depot new.depot ending → TellsEnding old.err new.err ending status → (status ≡ 3) ⊎ ((status ≡ 4) ⊎ (status ≡ 7))
+    settled Whole status causes tells = absurd (no_run _ causes)
+    settled NoMemory status causes tells = inr (inr tells.status_is)
+    settled (Faulty faults.Usage) status causes tells = absurd causes
+    settled (Faulty (faults.Graph other)) status causes tells = elim (refusal_status other status causes.of_text tells.status_is) [ inl three ↦ inl three | inr seven ↦ inr (inr seven) ]
+    settled (Faulty faults.ReadGraph) status causes tells = inr tells.status_is
+    settled (Faulty (faults.Read name)) status causes tells = absurd (no_run _ causes)
+    settled (Faulty (faults.Write name)) status causes tells = absurd (no_run _ causes)
+    settled (Faulty faults.WriteReport) status causes tells = absurd causes
+    settled (Faulty (faults.BadFrame name offset)) status causes tells = absurd causes
+    settled (Faulty (faults.TooLong name limit)) status causes tells = absurd (no_run _ causes)
 
   pub settles : (status : ℕ) → Runs path old new status → IfSome old.depot.held (SettlesStatus path status)
-  settles status runs = told old.depot.held runs.explained.causes.no_graph
-    where
-      told : (h : Option Held) → IfSome h (λ before. WithoutGraph before path (IsGraphEnding runs.explained.ending)) → IfSome h (SettlesStatus path status)
-      told None none = tt
-      told (Some before) none = λ text refusal at refused.
-          settled runs.explained.ending status runs.explained.causes.of_run (none text refusal at refused) runs.explained.fault_text
+  settles status runs = where_held (SettlesStatus path status) (λ before told text refusal at refused.
+      settled before told text refusal at refused runs.explained.ending status runs.explained.causes runs.explained.fault_text)
 
-  not_whole : (status : ℕ) (P : Type 0) → (status ≡ 3) ⊎ ((status ≡ 4) ⊎ ((status ≡ 5) ⊎ (status ≡ 7))) → (status ≡ 0) ⊎ (status ≡ 8) → P
-  not_whole status P (inl is) (inl zero) = absurd (omega arith)
-  not_whole status P (inl is) (inr eight) = absurd (omega arith)
-  not_whole status P (inr (inl is)) (inl zero) = absurd (omega arith)
-  not_whole status P (inr (inl is)) (inr eight) = absurd (omega arith)
-  not_whole status P (inr (inr (inl is))) (inl zero) = absurd (omega arith)
-  not_whole status P (inr (inr (inl is))) (inr eight) = absurd (omega arith)
-  not_whole status P (inr (inr (inr is))) (inl zero) = absurd (omega arith)
-  not_whole status P (inr (inr (inr is))) (inr eight) = absurd (omega arith)
+  -- a run that went through asked for every path
+  module _ (ending : Ending) (ran : RanFile path old.depot new.depot ending) where
+    opens_all : WentThrough ran.graph.pipes ran.mid new.depot ran.drew ran.draws → Then (OpensAll path ran.graph.pipes) old.depot.asked new.depot.asked
+    opens_all run =
+        let pipes = ran.graph.pipes in
+        Then-trans _ _ (OpensAll path pipes) old.depot.asked ran.mid.asked new.depot.asked
+        (λ x y z asks grown. record {
+          first = Closed asks.0 false true;
+          marks = closed_as pipes run.ways grown.0;
+          told =
+              let file = entry path sides.Source (Closed asks.0 false true) in
+              grown.1 ∙ rw (asks.2, all_closed pipes run.ways grown.0 grown.2) (append_assoc x (file ∷ []) (entries_at pipes (closed_as pipes run.ways grown.0) (path_places pipes)));
+          file_closed = refl;
+          all_closed = λ place. refl;
+        }) ran.read.asked run.through.entries
 
-  asked_by : (ending : Ending) (status : ℕ) (before : Held) (xs ys : List Entry) → IsRunEnding ending → TellsEnding old.err new.err ending status
-      → (status ≡ 0) ⊎ (status ≡ 8) → AsksRun path (Some before) ending xs ys → AsksAll path before xs ys
-  asked_by Whole status before xs ys of_run tells is asks = λ text graph at reads.
-      (asks.grown, asks.told, all_asked asks.grown _ (asks.stops text graph at reads) (all_clean asks.grown asks.marks))
-  asked_by (Faulty (faults.TooLong name limit)) status before xs ys of_run tells is asks = λ text graph at reads.
-      (asks.grown, asks.told, all_asked asks.grown _ (asks.stops text graph at reads) asks.marks.1)
-  asked_by NoMemory status before xs ys of_run tells is asks = not_whole status _ (inr (inr (inr tells.status_is))) is
-  asked_by (Faulty faults.Usage) status before xs ys of_run tells is asks = absurd of_run
-  asked_by (Faulty (faults.Graph refusal)) status before xs ys of_run tells is asks =
-      not_whole status _ (elim (refusal_status refusal status of_run tells.status_is) [ inl three ↦ inl three | inr seven ↦ inr (inr (inr seven)) ]) is
-  asked_by (Faulty faults.ReadGraph) status before xs ys of_run tells is asks =
-      not_whole status _ (elim tells.status_is [ inl four ↦ inr (inl four) | inr seven ↦ inr (inr (inr seven)) ]) is
-  asked_by (Faulty (faults.Read name)) status before xs ys of_run tells is asks =
-      not_whole status _ (elim tells.status_is [ inl four ↦ inr (inl four) | inr seven ↦ inr (inr (inr seven)) ]) is
-  asked_by (Faulty (faults.Write name)) status before xs ys of_run tells is asks =
-      not_whole status _ (elim tells.status_is [ inl five ↦ inr (inr (inl five)) | inr seven ↦ inr (inr (inr seven)) ]) is
-  asked_by (Faulty faults.WriteReport) status before xs ys of_run tells is asks = absurd of_run
-  asked_by (Faulty (faults.BadFrame name offset)) status before xs ys of_run tells is asks = absurd of_run
+    asks_of_graph : (before : Held) → old.depot.held ≡ Some before → WentThrough ran.graph.pipes ran.mid new.depot ran.drew ran.draws
+        → Then (AsksAll path before) old.depot.asked new.depot.asked
+    asks_of_graph before told run =
+        Then-map (λ _. Unit {0}) (OpensAll path ran.graph.pipes) (AsksAll path before) old.depot.asked new.depot.asked
+        (λ x y u opens text graph at reads.
+        subst (λ (g : Graph). OpensAll path g.pipes x y) (one_graph before path text ran.graph graph (rw told at ran.of_text) at reads) opens)
+        (always old.depot.asked) (opens_all run)
+
+  -- the other statuses
+  other_status : (status : ℕ) (P : Type 0) → (status ≡ 3) ⊎ ((status ≡ 4) ⊎ ((status ≡ 5) ⊎ (status ≡ 7))) → (status ≡ 0) ⊎ (status ≡ 8) → P
+  other_status status P (inl is) (inl zero) = absurd (omega arith)
+  other_status status P (inl is) (inr eight) = absurd (omega arith)
+  other_status status P (inr (inl is)) (inl zero) = absurd (omega arith)
+  other_status status P (inr (inl is)) (inr eight) = absurd (omega arith)
+  other_status status P (inr (inr (inl is))) (inl zero) = absurd (omega arith)
+  other_status status P (inr (inr (inl is))) (inr eight) = absurd (omega arith)
+  other_status status P (inr (inr (inr is))) (inl zero) = absurd (omega arith)
+  other_status status P (inr (inr (inr is))) (inr eight) = absurd (omega arith)
+
+  asked_by : (before : Held) (ending : Ending) (status : ℕ) → old.depot.held ≡ Some before → HasCauses path old.depot new.depot ending
+      → TellsEnding old.err new.err ending status → (status ≡ 0) ⊎ (status ≡ 8) → Then (AsksAll path before) old.depot.asked new.depot.asked
+  asked_by before Whole status told causes tells is =
+      asks_of_graph Whole causes before told (whole_through causes.graph.pipes causes.mid new.depot causes.drew causes.draws causes.outcome causes.ran (sym causes.so))
+  asked_by before (Faulty (faults.TooLong name limit)) status told causes tells is =
+      asks_of_graph _ causes before told (ran_long causes.graph.pipes causes.mid new.depot causes.drew causes.draws causes.outcome causes.ran name limit causes.so).run
+  asked_by before NoMemory status told causes tells is = other_status status _ (inr (inr (inr tells.status_is))) is
+  asked_by before (Faulty faults.Usage) status told causes tells is = absurd causes
+  asked_by before (Faulty (faults.Graph refusal)) status told causes tells is =
+      other_status status _ (elim (refusal_status refusal status causes.of_text tells.status_is) [ inl three ↦ inl three | inr seven ↦ inr (inr (inr seven)) ]) is
+  asked_by before (Faulty faults.ReadGraph) status told causes tells is =
+      other_status status _ (elim tells.status_is [ inl four ↦ inr (inl four) | inr seven ↦ inr (inr (inr seven)) ]) is
+  asked_by before (Faulty (faults.Read name)) status told causes tells is =
+      other_status status _ (elim tells.status_is [ inl four ↦ inr (inl four) | inr seven ↦ inr (inr (inr seven)) ]) is
+  asked_by before (Faulty (faults.Write name)) status told causes tells is =
+      other_status status _ (elim tells.status_is [ inl five ↦ inr (inr (inl five)) | inr seven ↦ inr (inr (inr seven)) ]) is
+  asked_by before (Faulty faults.WriteReport) status told causes tells is = absurd causes
+  asked_by before (Faulty (faults.BadFrame name offset)) status told causes tells is = absurd causes
 
   pub asks_all : (status : ℕ) → Runs path old new status → (status ≡ 0) ⊎ (status ≡ 8)
       → IfSome old.depot.held (λ before. Then (AsksAll path before) old.depot.asked new.depot.asked)
-  asks_all status runs is = told old.depot.held runs.explained.causes.asked
-    where
-      told : (h : Option Held) → Then (AsksRun path h runs.explained.ending) old.depot.asked new.depot.asked
-          → IfSome h (λ before. Then (AsksAll path before) old.depot.asked new.depot.asked)
-      told None asked = tt
-      told (Some before) asked =
-          Then-map (λ _. Unit {0}) (AsksRun path (Some before) runs.explained.ending) (AsksAll path before) old.depot.asked new.depot.asked
-          (λ xs ys u asks. asked_by runs.explained.ending status before xs ys runs.explained.causes.of_run runs.explained.fault_text is asks) (always old.depot.asked) asked
+  asks_all status runs is = where_held (λ before. Then (AsksAll path before) old.depot.asked new.depot.asked)
+      (λ before told. asked_by before runs.explained.ending status told runs.explained.causes runs.explained.fault_text is)

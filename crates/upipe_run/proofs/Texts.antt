@@ -1,5 +1,5 @@
 -- The text of a graph file that was read, and its graph.
-use Rattle.std.proofs.Common.{◌≡◌, ℕ, ◌<◌, ◌≤◌, List, length, take, Option, Some, None, IfSome, Result, Ok, Err, inl, inr, refl, sym, ap, subst, ◌∙◌, arith, length-take}
+use Rattle.std.proofs.Common.{◌≡◌, ℕ, ◌<◌, ◌≤◌, List, length, take, Option, Some, None, IfSome, Result, Ok, Err, inl, inr, refl, sym, ap, ◌∙◌, arith, length-take}
 use Rattle.std.specs.FinMap.{get}
 use Rattle.std.proofs.lemmas.Bool.{cases_lt, lt-ltb}
 use Rattle.std.proofs.lemmas.List.{take_all}
@@ -9,9 +9,9 @@ use Rattle.up_graph.specs.declared.graph_refused.GraphRefused.{GraphRefused}
 use Rattle.up_graph.specs.declared.graph_refused.GraphRefused.TheVariants as refusals
 use Rattle.up_model.specs.declared.graph.Graph.{Graph}
 use Rattle.up_outside.specs.Held.{Held}
-use Rattle.upipe_run.specs.Causes.{AreAlike, HasNoGraph}
 use Rattle.upipe_run.specs.GraphText.{IsStartAt}
-use Rattle.upipe_run.specs.OfGraph.{IsOfGraph, OfGraph, WithoutGraph}
+use Rattle.upipe_run.specs.OfGraph.{IsOfGraph, OfGraph}
+use Rattle.upipe_run.specs.Runs.{AreAlike, HasGraph, HasNoGraph}
 
 -- a text that is short was read whole
 whole_text : (bytes text : List ℕ) (most : ℕ) → text ≡ take most bytes → length text < most → text ≡ bytes
@@ -39,19 +39,19 @@ alike_itself (refusals.BadVersion got) = refl
 alike_itself refusals.NoPipes = refl
 alike_itself (refusals.TooManyPipes count) = refl
 alike_itself (refusals.BadField pipe field) = refl
+alike_itself (refusals.SameName pipe) = refl
+alike_itself (refusals.ManyInputs pipe) = refl
+alike_itself (refusals.UnknownInput pipe) = refl
+alike_itself (refusals.Cycle pipe) = refl
+alike_itself (refusals.ManyOutputs pipe) = refl
+alike_itself (refusals.NoOutput pipe) = refl
+alike_itself (refusals.WrongFlow pipe) = refl
+alike_itself (refusals.SamePath pipe) = refl
+alike_itself (refusals.TooManyWorkers count) = refl
 alike_itself refusals.NoMemory = refl
-
-same_text : (a b : List ℕ) → Some a ≡ Some b → a ≡ b
-same_text a b same = cc
 
 same_refusal : (a b : GraphRefused) (text : List ℕ) → graph_of text ≡ Err a → graph_of text ≡ Err b → a ≡ b
 same_refusal a b text one other = let both : ◌≡◌ {A = Result Graph GraphRefused} (Err a) (Err b) = sym one ∙ other in cc
-
-same_graph : (text : List ℕ) (a b : Graph) → graph_of text ≡ Ok a → graph_of text ≡ Ok b → a ≡ b
-same_graph text a b one other = let both : ◌≡◌ {A = Result Graph GraphRefused} (Ok a) (Ok b) = sym one ∙ other in cc
-
-refused_is_none : (refusal : GraphRefused) (graph : Graph) → ◌≡◌ {A = Result Graph GraphRefused} (Err refusal) (Ok graph) → ⊥
-refused_is_none refusal graph both = cc
 
 -- a text that was read has no graph, so the bytes at the path have none
 no_graph : (before : Held) (path text : List ℕ) (refusal : GraphRefused) → IsStartAt path 1048577 text before → graph_of text ≡ Err refusal
@@ -78,11 +78,6 @@ pub no_graph_told : (held : Option Held) (path text : List ℕ) (refusal : Graph
 no_graph_told None path text refusal start refused = tt
 no_graph_told (Some before) path text refusal start refused = no_graph before path text refusal start refused
 
--- what holds of every text without a graph
-pub without_graph : (held : Option Held) (path : List ℕ) (P : Type 0) → P → IfSome held (λ before. WithoutGraph before path P)
-without_graph None path P so = tt
-without_graph (Some before) path P so = λ text refusal at refused. so
-
 -- the text that was read has this graph
 module _ (path text : List ℕ) (graph : Graph) (reads : graph_of text ≡ Ok graph) where
   at_path : (before : Held) → IsStartAt path 1048577 text before → get before path ≡ Some text
@@ -93,38 +88,9 @@ module _ (path text : List ℕ) (graph : Graph) (reads : graph_of text ≡ Ok gr
   pub is_of_graph : (before : Held) (IsSo : Graph → Type 0) → IsStartAt path 1048577 text before → IsSo graph → IsOfGraph before path IsSo
   is_of_graph before IsSo start so = record { text = text; at_path = at_path before start; graph = graph; reads = reads; so = so }
 
-  pub of_graph : (before : Held) (IsSo : Graph → Type 0) → IsStartAt path 1048577 text before → IsSo graph → OfGraph before path IsSo
-  of_graph before IsSo start so = λ other found at found_is.
-      let same : other ≡ text = same_text other text (sym at ∙ at_path before start) in
-      subst IsSo (same_graph text graph found reads (ap graph_of (sym same) ∙ found_is)) so
-
-  -- so nothing is to be said of a text without a graph
-  pub has_graph : (before : Held) (P : Type 0) → IsStartAt path 1048577 text before → WithoutGraph before path P
-  has_graph before P start = λ other refusal at refused.
-      let same : other ≡ text = same_text other text (sym at ∙ at_path before start) in
-      absurd (refused_is_none refusal graph (sym refused ∙ ap graph_of same ∙ reads))
-
   pub at_graph : (before : Held) (P : Graph → Type 0) → IsStartAt path 1048577 text before → OfGraph before path P → P graph
   at_graph before P start of = of text graph (at_path before start) reads
 
-  module _ (held : Option Held) (start : IfSome held (IsStartAt path 1048577 text)) where
-    pub is_of_graph_told : (IsSo : Held → Graph → Type 0) → IfSome held (λ before. IsSo before graph) → IfSome held (λ before. IsOfGraph before path (IsSo before))
-    is_of_graph_told IsSo so = told held start so
-      where
-        told : (h : Option Held) → IfSome h (IsStartAt path 1048577 text) → IfSome h (λ before. IsSo before graph) → IfSome h (λ before. IsOfGraph before path (IsSo before))
-        told None start so = tt
-        told (Some before) start so = is_of_graph before (IsSo before) start so
-
-    pub of_graph_told : (IsSo : Graph → Type 0) → IsSo graph → IfSome held (λ before. OfGraph before path IsSo)
-    of_graph_told IsSo so = told held start
-      where
-        told : (h : Option Held) → IfSome h (IsStartAt path 1048577 text) → IfSome h (λ before. OfGraph before path IsSo)
-        told None start = tt
-        told (Some before) start = of_graph before IsSo start so
-
-    pub has_graph_told : (P : Type 0) → IfSome held (λ before. WithoutGraph before path P)
-    has_graph_told P = told held start
-      where
-        told : (h : Option Held) → IfSome h (IsStartAt path 1048577 text) → IfSome h (λ before. WithoutGraph before path P)
-        told None start = tt
-        told (Some before) start = has_graph before P start
+  pub has_graph_told : (held : Option Held) → IfSome held (IsStartAt path 1048577 text) → IfSome held (λ before. HasGraph before path graph)
+  has_graph_told None start = tt
+  has_graph_told (Some before) start = record { text = text; at_path = at_path before start; reads = reads }

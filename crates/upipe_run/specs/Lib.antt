@@ -1,16 +1,9 @@
-pub mod Asks
-pub mod Causes
-pub mod ChainEnds
-pub mod Counts
 pub mod Endings
-pub mod Flow
+pub mod Filling
 pub mod GraphText
 pub mod Laws
 pub mod OfGraph
-pub mod Paths
 pub mod Runs
 pub mod Seen
 pub mod Tells
-pub mod Verdicts
-pub mod Walk
 pub mod WholeOutput

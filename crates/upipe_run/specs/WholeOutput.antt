@@ -1,5 +1,5 @@
 -- What a whole run leaves: each sink's path has the bytes that the graph gives it, by what the sources' paths had.
-use Rattle.std.specs.Prelude.{◌≡◌, ℕ, ◌-◌, List, [], length, slice_get, Option, Some, None, unwrap_or}
+use Rattle.std.specs.Prelude.{◌≡◌, ℕ, List, [], slice_get, Option, Some, None, unwrap_or}
 use Rattle.std.specs.FinMap.{get}
 use Rattle.up_model.specs.Meaning.{sink_bytes}
 use Rattle.up_model.specs.Packet.{Flow}
@@ -9,9 +9,7 @@ use Rattle.up_model.specs.declared.kind.Kind.TheVariants.{Source, Sink}
 use Rattle.up_model.specs.declared.outcome.Outcome.TheVariants.{Whole}
 use Rattle.up_model.specs.declared.pipe.Pipe.{Pipe}
 use Rattle.up_outside.specs.Held.{Held}
-use Rattle.up_outside.specs.declared.asked.Side.TheVariants as sides
 use Rattle.upipe_run.specs.OfGraph.{IsOfGraph}
-use Rattle.upipe_run.specs.Paths.{pipe_path}
 
 -- the flow of a source, which counts with all of the bytes at its path
 abbrev pub flow_by : Held → Kind → Flow
@@ -46,18 +44,10 @@ pub record IsWholeOutput (before after : Held) (pipes : List Pipe) : Type 0 wher
   pub sinks : (place : ℕ) (pipe : Pipe) → slice_get pipes place ≡ Some pipe
       → IsWholeSink after (sink_bytes pipes (given_by before pipes) pipe) pipe.kind
 
--- the path of the last pipe, a sink, has what the path of the first, a source, had
-abbrev pub Copies : Held → Held → List Pipe → Type 0
-Copies before after pipes =
-    (from to : List ℕ) → pipe_path sides.Source pipes 0 ≡ Some from
-    → pipe_path sides.Sink pipes (length pipes - 1) ≡ Some to
-    → get after to ≡ get before from
-
--- the text at the path has a graph, whose output is whole; a graph of today is one chain, so its bytes are copied
+-- the text at the path has a graph, whose output is whole
 abbrev pub RanWhole : List ℕ → Held → Held → Type 0
 RanWhole path before after =
-    IsOfGraph before path (λ graph. IsWholeOutput before after graph.pipes
-    × Copies before after graph.pipes)
+    IsOfGraph before path (λ graph. IsWholeOutput before after graph.pipes)
 
 -- the text at the path has a graph, and every source of it is whole
 abbrev pub CanComplete : Held → List ℕ → Type 0

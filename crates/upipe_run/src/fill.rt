@@ -1,5 +1,5 @@
 ghost use Rattle.std.specs.Prelude.{◌≡◌, ◌<◌, ◌≤◌, length};
-ghost use Rattle.upipe_run.specs.Flow.{Fills};
+ghost use Rattle.upipe_run.specs.Filling.{Fills};
 
 use up_base::Failed;
 use up_outside::Source;

@@ -1,17 +1,13 @@
 //! The top call: runs the graph of a file over a depot, and answers the status.
 #![tactic(auto)]
 
-mod chain;
 mod drain;
 mod ending;
 mod fill;
-mod flow;
 mod graph_text;
 mod laws;
-mod path;
 mod program;
 mod tell;
-mod verdict;
 
 pub use ending::Ending;
 pub use laws::{runs_ask_all, runs_complete, runs_have_statuses};
@@ -20,6 +16,14 @@ pub use program::{run, run_single};
 #[cfg(test)]
 mod fault_tests;
 #[cfg(test)]
+mod kind_tests;
+#[cfg(test)]
 mod tell_tests;
 #[cfg(test)]
 mod tests;
+#[cfg(test)]
+mod told_tests;
+#[cfg(test)]
+mod tree_fault_tests;
+#[cfg(test)]
+mod tree_tests;

@@ -5,19 +5,19 @@ ghost use Rattle.upipe_run.specs.Runs.{HasCauses, KeepsOtherPaths, WritesWhole, 
 ghost use Rattle.upipe_run.specs.Seen.{seen};
 ghost use Rattle.upipe_run.specs.WholeOutput.{RanWhole};
 
-use crate::chain::{ChainEnds, ending_of, ends_of};
-use crate::ending::{Ending, refused_ending};
+use crate::ending::{Ending, ending_of, refused_ending};
 use crate::graph_text::read_text;
-use crate::path::carry_path;
 use crate::tell::{tell, tell_no_memory};
 use std::alloc::Global;
 use std::sync::Wait;
 use std::thread::Threads;
 use up_base::{Refusal, WordList};
+use up_engine::run_one_thread;
 use up_graph::read_graph;
 use up_model::MAX_GRAPH;
 use up_outside::{Depot, Sink};
 use up_report::Fault;
+use up_shape::{VecPacket, VecStore};
 use up_words::{Job, WordsRefused, read_words};
 
 /// Reads the graph file at the path, and runs its graph.
@@ -37,14 +37,10 @@ fn run_file<D: Depot>(alloc: Global, path: &str, depot: &mut D) -> Ending
         Ok(graph) => graph,
         Err(refused) => return refused_ending(refused),
     };
-    let ChainEnds {
-        from,
-        to,
-        block,
-        limit,
-    } = ends_of(&graph);
-    let verdict = carry_path(alloc, from, to, block, limit, depot);
-    ending_of(&graph, limit, verdict)
+    drop(text);
+    let mut store = VecStore::new(alloc);
+    let outcome = run_one_thread::<VecPacket, D>(alloc, &graph, depot, &mut store);
+    ending_of(&graph, outcome)
 }
 
 /// Runs the graph file at the path `graph` over the depot on this thread, and answers the status. Nothing is printed to

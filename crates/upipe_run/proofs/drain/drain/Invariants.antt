@@ -1,6 +1,6 @@
 use Rattle.std.proofs.Common.{◌≡◌, ◌≤◌, ◌-◌, length, take}
 use Rattle.std.specs.Io.KnownBytes.{Appends}
-use Rattle.upipe_run.specs.Flow.{IsSameSink}
+use Rattle.upipe_run.specs.Filling.{IsSameSink}
 use Rattle.upipe_run.proofs.drain.drain.Given as goal
 
 abbrev pub invariant-loop-count : goal.invariant-loop-count

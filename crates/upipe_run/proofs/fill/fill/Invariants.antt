@@ -1,5 +1,5 @@
 use Rattle.std.proofs.Common.{◌≡◌, ◌≤◌, ◌-◌, length, take}
-use Rattle.upipe_run.specs.Flow.{Moved}
+use Rattle.upipe_run.specs.Filling.{Moved}
 use Rattle.upipe_run.proofs.fill.fill.Given as goal
 
 abbrev pub invariant-loop-count : goal.invariant-loop-count

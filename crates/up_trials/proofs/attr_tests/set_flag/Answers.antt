@@ -1,0 +1,12 @@
+use Rattle.std.proofs.Common.{◌<◌, ◌∙◌, ap, inr, rules, sym}
+use Rattle.std.specs.FinMap as map
+use Rattle.up_base.specs.Name.{is_name}
+use Rattle.up_model.specs.declared.limits.TheConstants.{MAX_ATTRS}
+use Rattle.up_shape.specs.VecPackets.{plain_of}
+use Rattle.up_trials.proofs.attr_tests.set_flag.Goals as goal
+
+pub returns : goal.returns
+returns g c =
+    let room : map.len (plain_of c.args.packet.now).attrs < MAX_ATTRS = search rules in
+    rw c.in-Ok.ensures.set
+    (c.packets_stay_legal.ensures.set (plain_of c.args.packet.now) _ _ c.requires (ap is_name (sym c.bytes.ensures.bytes) ∙ c.bytes.ensures.name) tt (inr room))

@@ -1,0 +1,262 @@
+// Made graphs, cut and ended at many points: all strands come to the slow meaning.
+use crate::before_faults::read_before;
+use crate::left::finish;
+use crate::made_trees::{Dice, made_bytes, made_rows};
+use crate::run::{MANY, Tried, run_out};
+use crate::sent::Sent;
+use crate::slow_strands::{Carried, WantedList, assert_lane, assert_left, wanted_of};
+use crate::split::Split;
+use std::alloc::Global;
+use std::process::Abort;
+use std::test::Fail;
+use up_model::{MAX_LIMIT, Outcome};
+use up_outside::{DepotCall, MemDepot};
+use up_queue::{EndKind, Item};
+use up_shape::{VecPacket, VecStore};
+use up_strand::Want;
+
+/// How many graphs are made.
+const GRAPHS: u32 = 200;
+
+/// The most bytes that a read gives.
+const CUTS: [usize; 4] = [1, 3, 7, 1_000];
+
+/// The most bytes that a read gives, and the most reads up to one that fails.
+const FAULTS: [(usize, u32); 4] = [(1, 70), (3, 24), (7, 12), (1_000, 6)];
+
+/// The most bytes that a read gives, and a number above the limit.
+const LIMITS: [(usize, u32); 3] = [(1, 62), (7, 8), (1_000, 30)];
+
+/// Copies what went out for a lane.
+fn items_of(rt: &impl Abort, alloc: Global, sent: &[Sent], lane: u16) -> Vec<Item<Vec<u8>>> {
+    let mut items = Vec::new(alloc);
+    for one in sent {
+        if one.lane == lane {
+            let item = match &one.item {
+                Item::Packet(bytes) => {
+                    Item::Packet(Vec::from_slice(alloc, bytes).expect(rt, "no memory"))
+                }
+                Item::End(kind) => Item::End(*kind),
+            };
+            assert!(rt; items.push(item).is_ok());
+        }
+    }
+    items
+}
+
+/// The head of the lane whose end is the item at this place of what went out.
+fn ended_at(sent: &[Sent], k: usize) -> Option<u16> {
+    match sent.get(k) {
+        Some(
+            Sent {
+                lane,
+                item: Item::End(_),
+            },
+        ) => Some(*lane),
+        _ => None,
+    }
+}
+
+/// Runs the strand of a head to its end, and compares what is left of it.
+fn run_strand(
+    rt: &impl Abort,
+    alloc: Global,
+    split: &Split,
+    wanted: &WantedList,
+    head: u16,
+    depot: &mut MemDepot,
+    sent: &mut Vec<Sent>,
+) {
+    let s = &mut VecStore::new(alloc);
+    let items = items_of(rt, alloc, sent, head);
+    let mut strand: Tried<VecPacket> = split.strand(rt, alloc, head, depot);
+    let source = split.is_source(usize::from(head));
+    run_out(rt, alloc, &mut strand, source, &items, sent, s);
+    assert_eq!(rt; strand.wants(), Want::Done);
+    let left = finish(strand, s);
+    assert_left(rt, split, wanted, split.own_pipes(rt, head), &left);
+}
+
+/// Runs all strands, each behind the one that fills its lane, and compares what is left of them: what went out.
+fn run_strands(
+    rt: &impl Abort,
+    alloc: Global,
+    split: &Split,
+    wanted: &WantedList,
+    depot: &mut MemDepot,
+) -> Vec<Sent> {
+    let mut sent = Vec::new(alloc);
+    let mut count: usize = 1;
+    run_strand(
+        rt,
+        alloc,
+        split,
+        wanted,
+        split.first_head(rt),
+        depot,
+        &mut sent,
+    );
+    for k in 0..MANY {
+        if let Some(head) = ended_at(&sent, k) {
+            run_strand(rt, alloc, split, wanted, head, depot, &mut sent);
+            count = count.saturating_add(1);
+        }
+        if sent.len() <= k {
+            break;
+        }
+    }
+    assert_eq!(rt; split.plan.strands.len(), count);
+    sent
+}
+
+/// Compares what went out for each lane, of which each ended so.
+fn assert_lanes(rt: &impl Abort, split: &Split, wanted: &WantedList, end: EndKind, sent: &[Sent]) {
+    for i in 0..split.plan.strands.len() {
+        let head = split.plan.strands.at(i).head;
+        if !split.is_source(usize::from(head)) {
+            assert_lane(rt, wanted, end, head, sent);
+        }
+    }
+}
+
+/// The split of the graph of a number, whose source has this limit.
+fn made(rt: &impl Abort, alloc: Global, seed: u32, limit: u64) -> Result<Split, Fail> {
+    let rows = made_rows(alloc, seed, limit)?;
+    Split::of(rt, alloc, &rows)
+}
+
+/// A depot that holds these bytes for the first source. Each read gives at most so many, and one may fail.
+fn depot_of(
+    rt: &impl Abort,
+    alloc: Global,
+    split: &Split,
+    cut: usize,
+    fails: Option<u32>,
+    bytes: &[u8],
+) -> Result<MemDepot, Fail> {
+    let mut depot = MemDepot::new(alloc);
+    depot.cut(cut.max(1));
+    let path = format!(in alloc; "pipe{}", split.first_head(rt))?;
+    depot.hold(&path, bytes)?;
+    if let Some(nth) = fails {
+        depot.fail(DepotCall::Read, &path, nth.max(1))?;
+    }
+    Ok(depot)
+}
+
+/// Runs a graph over a depot, of which it is to come to this.
+fn run_made(
+    rt: &impl Abort,
+    alloc: Global,
+    split: &Split,
+    wanted: &WantedList,
+    end: EndKind,
+    depot: &mut MemDepot,
+) {
+    let sent = run_strands(rt, alloc, split, wanted, depot);
+    assert_lanes(rt, split, wanted, end, &sent);
+}
+
+#[test]
+fn made_graphs_come_to_the_slow_meaning_however_reads_are_cut(rt: HostRuntime) -> Result<(), Fail> {
+    let alloc = rt.alloc();
+    for seed in 0..GRAPHS {
+        let split = made(&rt, alloc, seed, MAX_LIMIT)?;
+        let bytes = made_bytes(alloc, &mut Dice::new(seed))?;
+        let bytes = bytes.as_slice();
+        let carried = Carried {
+            bytes,
+            ended: Outcome::Whole,
+        };
+        let wanted = wanted_of(&rt, alloc, &split, &carried);
+        for cut in CUTS {
+            let mut depot = depot_of(&rt, alloc, &split, cut, None, bytes)?;
+            run_made(&rt, alloc, &split, &wanted, EndKind::Whole, &mut depot);
+        }
+    }
+    Ok(())
+}
+
+/// Runs a graph where a read fails.
+fn run_fault(
+    rt: &impl Abort,
+    alloc: Global,
+    split: &Split,
+    cut: usize,
+    nth: u32,
+    bytes: &[u8],
+) -> Result<(), Fail> {
+    let block = split.block_at(rt, usize::from(split.first_head(rt)));
+    let read = read_before(bytes.len(), block, cut, nth);
+    let ended = if read.is_some() {
+        Outcome::ReadFault
+    } else {
+        Outcome::Whole
+    };
+    let count = read.unwrap_or(bytes.len()).min(bytes.len());
+    let carried = Carried {
+        bytes: &bytes[..count],
+        ended,
+    };
+    let wanted = wanted_of(rt, alloc, split, &carried);
+    let mut depot = depot_of(rt, alloc, split, cut, Some(nth), bytes)?;
+    run_made(rt, alloc, split, &wanted, carried.end(), &mut depot);
+    Ok(())
+}
+
+#[test]
+fn made_graphs_come_to_what_is_settled_where_a_read_fails(rt: HostRuntime) -> Result<(), Fail> {
+    let alloc = rt.alloc();
+    for seed in 0..GRAPHS {
+        let split = made(&rt, alloc, seed, MAX_LIMIT)?;
+        let dice = &mut Dice::new(seed);
+        let bytes = made_bytes(alloc, dice)?;
+        for (cut, most) in FAULTS {
+            let nth = 1 + dice.roll(most.max(1));
+            run_fault(&rt, alloc, &split, cut, nth, bytes.as_slice())?;
+        }
+    }
+    Ok(())
+}
+
+/// Runs the graph of a number whose source has this limit.
+fn run_limit(
+    rt: &impl Abort,
+    alloc: Global,
+    seed: u32,
+    cut: usize,
+    limit: u64,
+    bytes: &[u8],
+) -> Result<(), Fail> {
+    let ended = if limit < bytes.len() as u64 {
+        Outcome::TooLong { limit }
+    } else {
+        Outcome::Whole
+    };
+    let carried = Carried {
+        bytes: &bytes[..bytes.len().min(limit as usize)],
+        ended,
+    };
+    let split = made(rt, alloc, seed, limit)?;
+    let wanted = wanted_of(rt, alloc, &split, &carried);
+    let mut depot = depot_of(rt, alloc, &split, cut, None, bytes)?;
+    run_made(rt, alloc, &split, &wanted, carried.end(), &mut depot);
+    Ok(())
+}
+
+#[test]
+fn made_graphs_come_to_what_is_settled_at_their_limit(rt: HostRuntime) -> Result<(), Fail> {
+    let alloc = rt.alloc();
+    for seed in 0..GRAPHS {
+        let dice = &mut Dice::new(seed);
+        let bytes = made_bytes(alloc, dice)?;
+        let count = bytes.as_slice().len() as u64;
+        let exact = count.saturating_sub(u64::from(dice.roll(2)));
+        run_limit(&rt, alloc, seed, 3, exact, bytes.as_slice())?;
+        for (cut, most) in LIMITS {
+            let limit = u64::from(dice.roll(most.max(1)));
+            run_limit(&rt, alloc, seed, cut, limit, bytes.as_slice())?;
+        }
+    }
+    Ok(())
+}

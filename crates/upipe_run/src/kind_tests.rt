@@ -1,0 +1,136 @@
+// Runs of graphs of each kind, of none but what they need, and of as many pipes as a graph may have.
+use crate::tests::{RUN, depot_of, numbered_bytes, status_of};
+use crate::tree_tests::pipes_text;
+use std::alloc::Global;
+use std::string::String;
+use std::test::Fail;
+
+/// The fields of a source of `abcdef`, those of the pipe behind it, and the bytes of the sink behind that.
+const ROWS: [(&str, &str, &str); 9] = [
+    ("block = 2", "kind = 'skip', bytes = 1", "bdf"),
+    ("block = 2", "kind = 'skip', bytes = 0", "abcdef"),
+    ("block = 2", "kind = 'skip', bytes = 2", ""),
+    ("block = 2", "kind = 'skip', bytes = 3", ""),
+    ("block = 4", "kind = 'skip', bytes = 1", "bcdf"),
+    ("block = 4", "kind = 'skip', bytes = 3", "d"),
+    ("block = 1", "kind = 'idem'", "abcdef"),
+    ("block = 5", "kind = 'delattr', attr = 'x'", "abcdef"),
+    ("limit = 6", "kind = 'dup'", "abcdef"),
+];
+
+#[test]
+fn each_kind_does_its_work_in_a_run(rt: HostRuntime) -> Result<(), Fail> {
+    let alloc = rt.alloc();
+    for (source, between, wanted) in ROWS {
+        let text = format!(in alloc;
+            "version = 1\npipe = [{{name = 'in', kind = 'source', path = 'i', {source}}},\n\
+             {{name = 'mid', {between}, input = 'in'}},\n\
+             {{name = 'out', kind = 'sink', input = 'mid', path = 'o'}}]\n"
+        )?;
+        let mut depot = depot_of(alloc, text.as_bytes())?;
+        depot.hold("i", b"abcdef")?;
+        assert_eq!(rt;
+            status_of(&rt, alloc, &RUN, &mut depot)?,
+            0,
+            "{source} {between}"
+        );
+        assert_eq!(rt;
+            depot.bytes("o"),
+            Some(wanted.as_bytes()),
+            "{source} {between}"
+        );
+    }
+    Ok(())
+}
+
+#[test]
+fn a_graph_needs_no_sink_and_two_sources_may_share_a_path(rt: HostRuntime) -> Result<(), Fail> {
+    let alloc = rt.alloc();
+    let pipes = [
+        "name = 'in', kind = 'source', path = 'i', block = 1",
+        "name = 'gone', kind = 'null', input = 'in'",
+        "name = 'again', kind = 'source', path = 'i', block = 4",
+        "name = 'out', kind = 'sink', input = 'again', path = 'o'",
+    ];
+    for count in [2, 4] {
+        let some = pipes.get(..count).ok_or("too few pipes")?;
+        let text = pipes_text(alloc, some, 0, 1)?;
+        let mut depot = depot_of(alloc, text.as_bytes())?;
+        depot.hold("i", b"abcdef")?;
+        assert_eq!(rt; status_of(&rt, alloc, &RUN, &mut depot)?, 0);
+        let copied = if count == 2 {
+            None
+        } else {
+            Some(b"abcdef".as_slice())
+        };
+        assert_eq!(rt; depot.bytes("o"), copied);
+    }
+    Ok(())
+}
+
+/// The text of a chain of 256 pipes.
+fn long_text(alloc: Global) -> Result<String, Fail> {
+    let mut text = format!(in alloc;
+        "version = 1\npipe = [{{name = 'p0', kind = 'source', path = 'i'}},\n"
+    )?;
+    for place in 1u8..255 {
+        let before = place - 1;
+        let row = format!(in alloc;
+            "{{name = 'p{place}', kind = 'idem', input = 'p{before}'}},\n"
+        )?;
+        text.push_str(row.as_str())?;
+    }
+    text.push_str("{name = 'out', kind = 'sink', input = 'p254', path = 'o0'}]\n")?;
+    Ok(text)
+}
+
+/// The text of a source, a dup and the sinks `o0` to `o253`.
+fn wide_text(alloc: Global) -> Result<String, Fail> {
+    let mut text = format!(in alloc;
+        "version = 1\npipe = [{{name = 'in', kind = 'source', path = 'i'}},\n\
+         {{name = 'all', kind = 'dup', input = 'in'}},\n"
+    )?;
+    for place in 0u8..254 {
+        let row = format!(in alloc;
+            "{{name = 's{place}', kind = 'sink', input = 'all', path = 'o{place}'}},\n"
+        )?;
+        text.push_str(row.as_str())?;
+    }
+    text.push_str("]\n")?;
+    Ok(text)
+}
+
+/// The text of 128 sources, each with a sink of its own.
+fn parted_text(alloc: Global) -> Result<String, Fail> {
+    let mut text = format!(in alloc; "version = 1\npipe = [\n")?;
+    for place in 0u8..128 {
+        let row = format!(in alloc;
+            "{{name = 'p{place}', kind = 'source', path = 'i'}},\n\
+             {{name = 's{place}', kind = 'sink', input = 'p{place}', path = 'o{place}'}},\n"
+        )?;
+        text.push_str(row.as_str())?;
+    }
+    text.push_str("]\n")?;
+    Ok(text)
+}
+
+#[test]
+fn a_graph_of_256_pipes_runs_through_each(rt: HostRuntime) -> Result<(), Fail> {
+    let alloc = rt.alloc();
+    let bytes = numbered_bytes(alloc, 5_000)?;
+    let graphs = [
+        (long_text(alloc)?, 1),
+        (wide_text(alloc)?, 254),
+        (parted_text(alloc)?, 128),
+    ];
+    for (text, sinks) in &graphs {
+        let mut depot = depot_of(alloc, text.as_bytes())?;
+        depot.hold("i", &bytes)?;
+        assert_eq!(rt; status_of(&rt, alloc, &RUN, &mut depot)?, 0);
+        for place in 0..*sinks {
+            let path = format!(in alloc; "o{place}")?;
+            assert_eq!(rt; depot.bytes(path.as_str()), Some(&*bytes), "{path}");
+        }
+    }
+    Ok(())
+}
