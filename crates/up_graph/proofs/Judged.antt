@@ -93,7 +93,7 @@ same_judges V W (Err told) same judged = record {
 }
 
 -- where one name alone is wrong it is the least
-wrong_alone : (name : List ℕ) (wrong : List ℕ → Bool) → wrong name ≡ true → ((key : List ℕ) → wrong key ≡ true → name ≡ key) → IsLeast wrong name
+pub wrong_alone : (name : List ℕ) (wrong : List ℕ → Bool) → wrong name ≡ true → ((key : List ℕ) → wrong key ≡ true → name ≡ key) → IsLeast wrong name
 wrong_alone name wrong itself alone = record {
   wrong_itself = itself;
   least = λ other is before. not_before_itself name (rw (← alone other is) at before);
@@ -102,7 +102,7 @@ wrong_alone name wrong itself alone = record {
 pub same_bytes : (a b : List ℕ) → bytes_eq a b ≡ true → a ≡ b
 same_bytes a b is = (bytes_eq-Decides a b).0 is
 
-its_own : (a : List ℕ) → bytes_eq a a ≡ true
+pub its_own : (a : List ℕ) → bytes_eq a a ≡ true
 its_own a = (bytes_eq-Decides a a).1 refl
 
 -- the test of a field, at what the reader found

@@ -154,9 +154,9 @@ table_tells : (tables : List Data) (fields : Members) → Tells (pipe_in tables 
 table_tells tables fields = by_kind tables fields (kind_in fields) refl (kind_tells (get_member (codes "kind") fields))
 
 -- a pipe among these, of which the first has this number, is told of
-record IsAmong (left : List Data) (number told : ℕ) (key : List ℕ) : Type 0 where
+pub record IsAmong (left : List Data) (number told : ℕ) (key : List ℕ) : Type 0 where
   place : ℕ
-  number_is : told ≡ number + place
+  pub number_is : told ≡ number + place
   tells : TellsOf left place key
 
 later_told : (fields : Members) (others : List Data) (number told : ℕ) (key : List ℕ) → HasNoWrong (kind_in fields) fields
@@ -199,7 +199,7 @@ first_told fields others number told key (Err wrong) rest tells later is =
       };
     }
 
-pipes_told : (tables left : List Data) (number told : ℕ) (key : List ℕ) → list_all is_table left ≡ true
+pub pipes_told : (tables left : List Data) (number told : ℕ) (key : List ℕ) → list_all is_table left ≡ true
     → pipes_from tables number left ≡ Err (BadField told key) → IsAmong left number told key
 unfolding pipes_from
 pipes_told tables [] number told key all is = absurd cc
@@ -208,56 +208,57 @@ pipes_told tables (table fields ∷ others) number told key all is =
     (pipes_told tables others (suc number) told key all) is
 pipes_told tables (value ∷ others) number told key all is = absurd cc
 
--- no pipe's field is told
-abbrev TellsNoPipe : GraphRefused → Type 0
-TellsNoPipe (BadField number key) = number ≡ 0
-TellsNoPipe refused = Unit {0}
+-- no field is told
+abbrev pub TellsNoField : GraphRefused → Type 0
+TellsNoField (BadField number key) = ⊥
+TellsNoField refused = Unit {0}
 
-elsewhere : {A : Type 0} (found : Checked A) (place : ℕ) (key : List ℕ) → IfErr found TellsNoPipe → found ≡ Err (BadField (place + 1) key) → ⊥
-elsewhere found place key no_pipe is = let none : place + 1 ≡ 0 = rw is at no_pipe in omega (arith, none)
+pub elsewhere : {A : Type 0} (found : Checked A) (number : ℕ) (key : List ℕ) → IfErr found TellsNoField → found ≡ Err (BadField number key) → ⊥
+elsewhere found number key no_field is = rw is at no_field
 
-if_too : {A : Type 0} (is : Bool) (one other : Checked A) → IfErr one TellsNoPipe → IfErr other TellsNoPipe → IfErr (if is then one else other) TellsNoPipe
+if_too : {A : Type 0} (is : Bool) (one other : Checked A) → IfErr one TellsNoField → IfErr other TellsNoField → IfErr (if is then one else other) TellsNoField
 if_too true one other of_one of_other = of_one
 if_too false one other of_one of_other = of_other
 
-parsed_elsewhere : (found : Option Members) → IfErr (parsed found) TellsNoPipe
+parsed_elsewhere : (found : Option Members) → IfErr (parsed found) TellsNoField
 parsed_elsewhere None = tt
 parsed_elsewhere (Some top) = tt
 
-document_elsewhere : (text : List ℕ) → IfErr (document_of text) TellsNoPipe
+pub document_elsewhere : (text : List ℕ) → IfErr (document_of text) TellsNoField
 unfolding document_of
 document_elsewhere text =
     if_too (nat_lt MAX_GRAPH (length text)) (Err (TooBig (length text))) (if is_utf8 text then parsed (parse_document text) else Err NotToml) tt
     (if_too (is_utf8 text) (parsed (parse_document text)) (Err NotToml) (parsed_elsewhere (parse_document text)) tt)
 
-version_elsewhere : (found : Option Data) → IfErr (version_is found) TellsNoPipe
+pub version_elsewhere : (found : Option Data) → IfErr (version_is found) TellsNoField
 version_elsewhere None = tt
 version_elsewhere (Some (integer got)) = if_too (is_one got) (Ok tt) (Err (BadVersion (Some got))) tt tt
 version_elsewhere (Some value) = tt
 
-next_elsewhere : {A B : Type 0} (found : Checked A) (next : A → Checked B) → IfErr found TellsNoPipe → ((value : A) → IfErr (next value) TellsNoPipe) → IfErr (found >>= next) TellsNoPipe
+next_elsewhere : {A B : Type 0} (found : Checked A) (next : A → Checked B) → IfErr found TellsNoField → ((value : A) → IfErr (next value) TellsNoField) → IfErr (found >>= next) TellsNoField
 next_elsewhere (Ok value) next of_found of_next = of_next value
 next_elsewhere (Err refused) next of_found of_next = of_found
 
-counted_elsewhere : (pipes : List Data) → IfErr (counted pipes) TellsNoPipe
+counted_elsewhere : (pipes : List Data) → IfErr (counted pipes) TellsNoField
 counted_elsewhere pipes =
     if_too (length pipes == 0) (Err NoPipes) (if nat_lt MAX_PIPES (length pipes) then Err (TooManyPipes (length pipes)) else Ok tt) tt
     (if_too (nat_lt MAX_PIPES (length pipes)) (Err (TooManyPipes (length pipes))) (Ok tt) tt tt)
 
-array_elsewhere : (found : Option Data) → IfErr (array_in found) TellsNoPipe
+pub array_elsewhere : (found : Option Data) → IfErr (array_in found) TellsNoField
 array_elsewhere None = tt
 array_elsewhere (Some (array items)) = next_elsewhere (counted (values items)) _ (counted_elsewhere (values items)) (λ _. tt)
 array_elsewhere (Some value) = tt
 
-top_elsewhere : {A : Type 0} (found : Field A) → IfErr (numbered 0 found) TellsNoPipe
-top_elsewhere (Ok value) = tt
-top_elsewhere (Err key) = refl
+-- the top isn't told as a pipe
+top_elsewhere : {A : Type 0} (found : Field A) (place : ℕ) (key : List ℕ) → numbered 0 found ≡ Err (BadField (place + 1) key) → ⊥
+top_elsewhere (Ok value) place key is = absurd cc
+top_elsewhere (Err wrong) place key is = let same : 0 ≡ place + 1 = cc in omega (arith, same)
 
-place_elsewhere : (refusal : ℕ → GraphRefused) → ((number : ℕ) → TellsNoPipe (refusal number)) → (found : Option ℕ) → IfErr (none_at refusal found) TellsNoPipe
+place_elsewhere : (refusal : ℕ → GraphRefused) → ((number : ℕ) → TellsNoField (refusal number)) → (found : Option ℕ) → IfErr (none_at refusal found) TellsNoField
 place_elsewhere refusal other None = tt
 place_elsewhere refusal other (Some place) = other (place + 1)
 
-fault_elsewhere : (fault : Option GraphFault) → IfErr (told fault) TellsNoPipe
+fault_elsewhere : (fault : Option GraphFault) → IfErr (told fault) TellsNoField
 fault_elsewhere None = tt
 fault_elsewhere (Some (faults.SameName place)) = tt
 fault_elsewhere (Some (faults.UnknownInput place)) = tt
@@ -268,22 +269,22 @@ fault_elsewhere (Some (faults.WrongFlow place)) = tt
 fault_elsewhere (Some (faults.SamePath place)) = tt
 fault_elsewhere (Some (faults.TooManyWorkers count)) = tt
 
-between_elsewhere : (tables : List Data) (pipes : List Pipe) → IfErr (graph_from tables pipes) TellsNoPipe
+pub between_elsewhere : (tables : List Data) (pipes : List Pipe) → IfErr (graph_from tables pipes) TellsNoField
 between_elsewhere tables pipes =
     next_elsewhere (names_differ pipes) _ (place_elsewhere SameName (λ number. tt) (first_place has_same_name pipes))
     (λ _. next_elsewhere (one_input_each tables) _ (place_elsewhere ManyInputs (λ number. tt) (position has_many_inputs tables))
     (λ _. next_elsewhere (faultless pipes) _ (fault_elsewhere (graph_fault pipes)) (λ _. tt)))
 
-abbrev refused_with : GraphRefused → Checked (Unit {0})
+abbrev refused_with : {A : Type 0} → GraphRefused → Checked A
 refused_with refused = Err refused
 
--- where two rules tell a field of a pipe, and the first doesn't, the second does
-second_tells : {A B : Type 0} (found : Checked A) (next : A → Checked B) (place : ℕ) (key : List ℕ) → IfErr found TellsNoPipe
-    → (found >>= next) ≡ Err (BadField (place + 1) key) → (value : A) × (found ≡ Ok value) × (next value ≡ Err (BadField (place + 1) key))
-second_tells (Ok value) next place key no_pipe is = (value, refl, is)
-second_tells (Err refused) next place key no_pipe is =
-    let same : refused ≡ BadField (place + 1) key = cc in
-    absurd (elsewhere (refused_with refused) place key no_pipe (ap refused_with same))
+-- where two rules tell this, and the first doesn't, the second does
+pub second_tells : {A B : Type 0} (found : Checked A) (next : A → Checked B) (told : GraphRefused) → (found ≡ Err told → ⊥)
+    → (found >>= next) ≡ Err told → (value : A) × (found ≡ Ok value) × (next value ≡ Err told)
+second_tells (Ok value) next told not_here is = (value, refl, is)
+second_tells {A = A} (Err refused) next told not_here is =
+    let same : refused ≡ told = cc in
+    absurd (not_here (ap (refused_with {A = A}) same))
 
 array_found : (found : Option Data) (tables : List Data) → array_in found ≡ Ok (Some tables) → (items : Items) × (found ≡ Some (array items)) × (tables ≡ values items)
 array_found None tables is = absurd cc
@@ -302,7 +303,7 @@ are_tables (Some tables) =
       | inr not_all ↦ rw not_all tt
     ]
 
-tables_found : (found : Option (List Data)) (top : Members) (tables : List Data) → tables_of found top ≡ Ok tables → (found ≡ Some tables) × (list_all is_table tables ≡ true)
+pub tables_found : (found : Option (List Data)) (top : Members) (tables : List Data) → tables_of found top ≡ Ok tables → (found ≡ Some tables) × (list_all is_table tables ≡ true)
 tables_found found top tables is =
     let P : List Data → Type 0 = λ tables. (found ≡ Some tables) × (list_all is_table tables ≡ true) in
     let all : IfOk (tables_of found top) P =
@@ -315,10 +316,11 @@ tables_found found top tables is =
 pub least_wrong_is_told : (text : List ℕ) (place : ℕ) (key : List ℕ) → graph_of text ≡ Err (BadField (place + 1) key) → TellsLeastWrong text place key
 unfolding graph_of graph_in
 least_wrong_is_told text place key is =
-    let (top, document, after_document) = second_tells (document_of text) graph_in place key (document_elsewhere text) is in
-    let (_, _, after_version) = second_tells (version_of top) _ place key (version_elsewhere (get_member (codes "version") top)) after_document in
-    let (found, found_is, after_array) = second_tells (array_of top) _ place key (array_elsewhere (get_member (codes "pipe") top)) after_version in
-    let (tables, tables_is, after_tables) = second_tells (tables_of found top) _ place key (top_elsewhere _) after_array in
+    let told : GraphRefused = BadField (place + 1) key in
+    let (top, document, after_document) = second_tells (document_of text) graph_in told (elsewhere _ (place + 1) key (document_elsewhere text)) is in
+    let (_, _, after_version) = second_tells (version_of top) _ told (elsewhere _ (place + 1) key (version_elsewhere (get_member (codes "version") top))) after_document in
+    let (found, found_is, after_array) = second_tells (array_of top) _ told (elsewhere _ (place + 1) key (array_elsewhere (get_member (codes "pipe") top))) after_version in
+    let (tables, tables_is, after_tables) = second_tells (tables_of found top) _ told (top_elsewhere _ place key) after_array in
     let (some, all) = tables_found found top tables tables_is in
     let (items, stands, values_is) = array_found (get_member (codes "pipe") top) tables (found_is ∙ ap Ok some) in
     let pipe_fails : pipes_from tables 1 tables ≡ Err (BadField (place + 1) key) = last_fails (pipes_from tables 1 tables) (graph_from tables) (between_elsewhere tables) after_tables in
@@ -333,7 +335,7 @@ least_wrong_is_told text place key is =
           (subst (λ (these : List Data). TellsOf these among.place key) values_is among.tells);
     }
   where
-    last_fails : (found : Checked (List Pipe)) (next : List Pipe → Checked Graph) → ((pipes : List Pipe) → IfErr (next pipes) TellsNoPipe)
+    last_fails : (found : Checked (List Pipe)) (next : List Pipe → Checked Graph) → ((pipes : List Pipe) → IfErr (next pipes) TellsNoField)
         → (found >>= next) ≡ Err (BadField (place + 1) key) → found ≡ Err (BadField (place + 1) key)
-    last_fails (Ok pipes) next other is = absurd (elsewhere (next pipes) place key (other pipes) is)
+    last_fails (Ok pipes) next other is = absurd (elsewhere (next pipes) (place + 1) key (other pipes) is)
     last_fails (Err refused) next other is = let same : refused ≡ BadField (place + 1) key = cc in ap Err same

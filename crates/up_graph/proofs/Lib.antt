@@ -2,6 +2,7 @@ pub mod Found
 pub mod Items
 pub mod Judged
 pub mod Keys
+pub mod LeastAtTop
 pub mod LeastWrong
 pub mod Order
 pub mod PipeRuns

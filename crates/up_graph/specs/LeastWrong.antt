@@ -1,7 +1,7 @@
--- Which field of a pipe is told as wrong, in the words of the rules: no order of looking at them plays a part.
-use Rattle.std.specs.Prelude.{◌≡◌, ℕ, ◌<◌, Bool, true, ◌&&◌, ◌||◌, not, List, slice_get, codes, Option, Some, None, Ok}
+-- Which field is told as wrong, of a pipe and of the top, in the words of the rules: no order of looking plays a part.
+use Rattle.std.specs.Prelude.{◌≡◌, ℕ, ◌<◌, Bool, true, false, ◌&&◌, ◌||◌, not, List, [], ◌∷◌, slice_get, codes, Option, Some, None, Ok}
 use Rattle.std.specs.Cmp.Lexicographic.{slice_cmp}
-use Rattle.std.specs.List.{list_any}
+use Rattle.std.specs.List.{list_all, list_any}
 use Rattle.std.specs.Ordering.{nat_cmp}
 use Rattle.std.specs.declared.cmp.Ordering.TheVariants.{Less}
 use Rattle.std.specs.Str.{bytes_eq}
@@ -9,6 +9,7 @@ use Rattle.toml.specs.Data.{Data, array, table, Items, Members, get_member}
 use Rattle.up_graph.specs.Document.{document_of}
 use Rattle.up_graph.specs.Field.{is_among, keys}
 use Rattle.up_graph.specs.KindRows.{FieldTest, KindRow, a_kind, fields_of, names_of}
+use Rattle.up_graph.specs.Top.{is_table}
 use Rattle.up_graph.specs.Values.{values}
 
 -- the field has this name, and what stands there, or that nothing does, isn't right
@@ -54,6 +55,23 @@ pub record TellsOf (tables : List Data) (place : ℕ) (key : List ℕ) : Type 0 
   pub told : IsToldOf (kind_in fields) fields key
   pub before : (earlier : ℕ) (other : Members) → earlier < place
       → slice_get tables earlier ≡ Some (table other) → HasNoWrong (kind_in other) other
+
+-- what stands at `pipe` is an array of tables
+abbrev pub has_tables : Option Data → Bool
+has_tables (Some (array pipes)) = list_all is_table (values pipes)
+has_tables _ = false
+
+-- the key stands at the top and is none of its two, or it is `pipe` and no array of tables stands there
+abbrev pub is_wrong_at_top : Members → List ℕ → Bool
+is_wrong_at_top top key =
+    (is_among key (keys top) && not (is_among key (codes "pipe" ∷ codes "version" ∷ [])))
+    || (bytes_eq (codes "pipe") key && not (has_tables (get_member (codes "pipe") top)))
+
+-- the text is a document, of whose top this is told
+pub record TellsLeastAtTop (text : List ℕ) (key : List ℕ) : Type 0 where
+  pub top : Members
+  pub document : document_of text ≡ Ok top
+  pub told : IsLeast (is_wrong_at_top top) key
 
 -- the text is a document with an array of tables, of which this is told
 pub record TellsLeastWrong (text : List ℕ) (place : ℕ) (key : List ℕ) : Type 0 where

@@ -3,6 +3,7 @@ ghost use Rattle.std.specs.Prelude.{◌≡◌, ◌≤◌, ◌<◌, ◌+◌, leng
 ghost use Rattle.toml.specs.View.{array_view, view};
 ghost use Rattle.up_graph.specs.Faults.{StandsWithin, graph_from, has_many_inputs, refusal_of};
 ghost use Rattle.up_graph.specs.Values.{values};
+ghost use Rattle.up_model.specs.declared.limits.TheConstants.{MAX_PIPES};
 
 use crate::GraphRefused;
 use crate::values::input_at;
@@ -29,7 +30,7 @@ fn many_inputs(tables: &Array) -> Option<usize>
 
 /// The number from 1 of the pipe at a place.
 fn number_of(place: usize) -> u16
-    requires { place < 256 }
+    requires { place < MAX_PIPES }
     ensures { result ≡ place + 1 }
 {
     place as u16 + 1
@@ -37,7 +38,7 @@ fn number_of(place: usize) -> u16
 
 /// What a fault is told as.
 fn refusal_of(fault: GraphFault) -> GraphRefused
-    requires { StandsWithin 256 fault }
+    requires { StandsWithin MAX_PIPES fault }
     ensures { result ≡ refusal_of fault }
 {
     match fault {
@@ -68,8 +69,8 @@ fn refusal_of(fault: GraphFault) -> GraphRefused
 
 /// The graph of the pipes that these tables gave, where nothing is wrong between them.
 pub fn graph_from(tables: &Array, pipes: PipeList) -> Result<Graph, GraphRefused>
-    requires tables { vec_len tables.now ≤ 256 }
-    requires pipes { length pipes ≤ 256 }
+    requires tables { vec_len tables.now ≤ MAX_PIPES }
+    requires pipes { length pipes ≤ MAX_PIPES }
     ensures { result ≡ graph_from (values (array_view tables.now)) pipes }
 {
     let graph = Graph { pipes };

@@ -6,6 +6,7 @@ ghost use Rattle.up_graph.specs.Field.{seen};
 ghost use Rattle.up_graph.specs.Pipes.{has_name, pipe_from, pipe_in, pipe_of, pipes_from, place_named, place_of, taken_by};
 ghost use Rattle.up_graph.specs.Top.{numbered};
 ghost use Rattle.up_graph.specs.Values.{values};
+ghost use Rattle.up_model.specs.declared.limits.TheConstants.{MAX_PIPES};
 
 use crate::GraphRefused;
 use crate::field::{both, value_at};
@@ -41,10 +42,10 @@ fn place_named(tables: &Array, name: &str) -> usize
         .unwrap_or(tables.len())
 }
 
-#[tactic(auto, using(crate::proofs::Items::length_values))]
 /// A place that isn't there stands for two names and more.
+#[tactic(auto, using(crate::proofs::Items::length_values))]
 fn place_of(tables: &Array, name: Option<&str>) -> u16
-    requires { vec_len tables.now ≤ 256 }
+    requires { vec_len tables.now ≤ MAX_PIPES }
     ensures { result ≡ place_of (values (array_view tables.now))
         (option_map (λ name. name.now) name.entry) }
 {
@@ -56,7 +57,7 @@ fn place_of(tables: &Array, name: Option<&str>) -> u16
 
 /// The place of the pipe whose output a pipe takes. A source takes none.
 fn taken_by<'a>(is_source: bool, tables: &Array, table: &'a Table) -> Result<Option<u16>, &'a str>
-    requires { vec_len tables.now ≤ 256 }
+    requires { vec_len tables.now ≤ MAX_PIPES }
     ensures { seen (λ place. place) result
         ≡ taken_by is_source (values (array_view tables.now)) (table_view table.entry.now) }
 {
@@ -89,7 +90,7 @@ fn pipe_of<'a>(
     tables: &Array,
     table: &'a Table,
 ) -> Result<Result<Pipe, &'a str>, NoMemory>
-    requires { vec_len tables.now ≤ 256 }
+    requires { vec_len tables.now ≤ MAX_PIPES }
     ensures { IfOk result (λ pipe. seen (λ pipe. pipe) pipe
         ≡ pipe_of (values (array_view tables.now)) (table_view table.entry.now)) }
 {
@@ -111,7 +112,7 @@ fn pipe_of<'a>(
 
 /// The pipe of a number that a value gives. A value that is no table names no kind.
 fn pipe_at(alloc: Global, tables: &Array, number: u16, value: &Value) -> Result<Pipe, GraphRefused>
-    requires { vec_len tables.now ≤ 256 }
+    requires { vec_len tables.now ≤ MAX_PIPES }
     ensures { Answers (λ pipe. pipe) result
         (numbered number (pipe_in (values (array_view tables.now)) (view value.now))) }
 {
@@ -130,10 +131,10 @@ fn pipe_at(alloc: Global, tables: &Array, number: u16, value: &Value) -> Result<
 
 /// The pipes of the tables of all pipes, or the refusal of the first that has a wrong field.
 pub fn pipes_at(alloc: Global, tables: &Array) -> Result<PipeList, GraphRefused>
-    requires { vec_len tables.now ≤ 256 }
+    requires { vec_len tables.now ≤ MAX_PIPES }
     ensures answers { Answers (λ pipes. pipes) result
         (pipes_from (values (array_view tables.now)) 1 (values (array_view tables.now))) }
-    ensures few { IfOk result (λ pipes. length pipes ≤ 256) }
+    ensures few { IfOk result (λ pipes. length pipes ≤ MAX_PIPES) }
 {
     let mut pipes = PipeList::new(alloc);
     for (place, table) in tables.iter().enumerate() {

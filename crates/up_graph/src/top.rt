@@ -6,6 +6,7 @@ ghost use Rattle.up_graph.specs.Answers.{Answers, Refuses};
 ghost use Rattle.up_graph.specs.Field.{seen};
 ghost use Rattle.up_graph.specs.Top.{array_of, counted, is_table, tables_in, tables_of, version_of};
 ghost use Rattle.up_graph.specs.Values.{values};
+ghost use Rattle.up_model.specs.declared.limits.TheConstants.{MAX_PIPES};
 
 use crate::GraphRefused;
 use crate::field::{both, known_alone, value_at};
@@ -36,11 +37,11 @@ pub fn check_version(table: &Table) -> Result<(), GraphRefused>
     }
 }
 
-#[tactic(auto, using(crate::proofs::Items::length_values))]
 /// An array of pipes has 1 to 256 items.
+#[tactic(auto, using(crate::proofs::Items::length_values))]
 fn check_count(pipes: &Array) -> Result<(), GraphRefused>
     ensures answers { result ≡ counted (values (array_view pipes.now)) }
-    ensures few { IfOk result (λ _. vec_len pipes.now ≤ 256) }
+    ensures few { IfOk result (λ _. vec_len pipes.now ≤ MAX_PIPES) }
 {
     if pipes.is_empty() {
         return Err(GraphRefused::NoPipes);
@@ -55,7 +56,7 @@ fn check_count(pipes: &Array) -> Result<(), GraphRefused>
 pub fn array_at<'a>(table: &'a Table) -> Result<Option<&'a Array>, GraphRefused>
     ensures answers { Answers (option_map (λ pipes. values (array_view pipes.now))) result
         (array_of (table_view table.entry.now)) }
-    ensures few { IfOk result (λ found. IfSome found (λ pipes. vec_len pipes.now ≤ 256)) }
+    ensures few { IfOk result (λ found. IfSome found (λ pipes. vec_len pipes.now ≤ MAX_PIPES)) }
 {
     match value_at(table, "pipe") {
         None => Err(GraphRefused::NoPipes),

@@ -24,7 +24,7 @@ fn assert_lines(
 }
 
 #[test]
-fn each_refusal_of_a_graph_has_its_line(rt: HostRuntime) -> Result<(), Fail> {
+fn each_refusal_of_a_file_has_its_line(rt: HostRuntime) -> Result<(), Fail> {
     let alloc = rt.alloc();
     let refusals = [
         (
@@ -41,6 +41,22 @@ fn each_refusal_of_a_graph_has_its_line(rt: HostRuntime) -> Result<(), Fail> {
             GraphRefused::TooManyPipes { count: 257 },
             "upipe: graph: too many pipes: 257\n",
         ),
+        (
+            GraphRefused::TooManyWorkers { count: 17 },
+            "upipe: graph: too many workers: 17\n",
+        ),
+        (GraphRefused::NoMemory, "upipe: out of memory\n"),
+    ];
+    for (refused, wanted) in refusals {
+        assert_lines(&rt, alloc, &[(Fault::Graph(refused), wanted)])?;
+    }
+    Ok(())
+}
+
+#[test]
+fn each_refusal_of_a_pipe_has_its_line(rt: HostRuntime) -> Result<(), Fail> {
+    let alloc = rt.alloc();
+    let refusals = [
         (
             GraphRefused::SameName { pipe: 1 },
             "upipe: graph: pipe 1: name used twice\n",
@@ -73,11 +89,6 @@ fn each_refusal_of_a_graph_has_its_line(rt: HostRuntime) -> Result<(), Fail> {
             GraphRefused::SamePath { pipe: 256 },
             "upipe: graph: pipe 256: path used twice\n",
         ),
-        (
-            GraphRefused::TooManyWorkers { count: 17 },
-            "upipe: graph: too many workers: 17\n",
-        ),
-        (GraphRefused::NoMemory, "upipe: out of memory\n"),
     ];
     for (refused, wanted) in refusals {
         assert_lines(&rt, alloc, &[(Fault::Graph(refused), wanted)])?;
