@@ -1,0 +1,17 @@
+//! The attributes of a packet in one run of bytes: a finite map from names to values that takes memory only where it holds
+//! something, and whose copy is a copy of bytes.
+#![tactic(auto)]
+
+mod date_kind;
+mod dict;
+mod edit;
+mod find;
+mod first;
+mod held;
+mod set_refused;
+mod spell;
+mod value_type;
+
+pub use date_kind::DateKind;
+pub use dict::Dict;
+pub use set_refused::SetRefused;
