@@ -65,7 +65,7 @@ pub(crate) fn start_of(run: &[u8], place: usize) -> usize
     ensures { StandBefore (attrs_in run.now) place result }
 {
     let mut byte = 0;
-    for _ in 0..place {
+    for _before in 0..place {
         byte += first_size(&run[byte..]);
     }
     byte
