@@ -13,10 +13,10 @@ use Rattle.std.specs.declared.cmp.Ordering.{Ordering}
 use Rattle.std.specs.declared.cmp.Ordering.TheVariants.{Less, Equal, Greater}
 use Rattle.up_model.proofs.SortedEntries.{searchable}
 use Rattle.up_model.specs.declared.value.Value.TheVariants.{Void}
-use Rattle.up_dict.proofs.ReadBack.{ReadsAs, first_reads, first_size_reads, first_within}
+use Rattle.up_dict.proofs.ReadBack.{ReadsAs, first_reads, first_size_reads, first_value_reads, first_within}
 use Rattle.up_dict.specs.Held.{Spells}
 use Rattle.up_dict.specs.Places.{HasFirst, StandBefore}
-use Rattle.up_dict.specs.Reading.{first_name, first_size, type_place, value_size}
+use Rattle.up_dict.specs.Reading.{first_name, first_size, first_value, type_place, value_size}
 use Rattle.up_dict.specs.Spelling.{Attr, attr_bytes, spelled}
 
 -- what a read past the end gives
@@ -57,6 +57,12 @@ module _ (attrs : List Attr) (run : List ℕ) (spells : Spells attrs run) (place
   unfolding first_here
   name_here within = (first_reads (drop byte run) (first_here within)).name
 
+  pub value_here : (within : place < length attrs) → first_value (drop byte run) ≡ (get_or attrs place no_attr).1
+  unfolding first_here
+  value_here within =
+      let attr = get_or attrs place no_attr in
+      first_value_reads (drop byte run) attr (spells.legal place no_attr within) (first_reads (drop byte run) (first_here within))
+
   pub size_here : (within : place < length attrs) → first_size (drop byte run) ≡ length (attr_bytes (get_or attrs place no_attr))
   unfolding first_here
   size_here within = first_size_reads (drop byte run) (get_or attrs place no_attr) (first_reads (drop byte run) (first_here within))
@@ -84,7 +90,7 @@ module _ (attrs : List Attr) (run : List ℕ) (spells : Spells attrs run) (place
   one_further within =
       let attr = get_or attrs place no_attr in
       let more : spelled (take (place + 1) attrs) ≡ spelled (take place attrs) ++ spelled (attr ∷ []) =
-          ap spelled (take_more attrs place no_attr within) ∙ flat_map-append attr_bytes (take place attrs) (attr ∷ []) in
+      ap spelled (take_more attrs place no_attr within) ∙ flat_map-append attr_bytes (take place attrs) (attr ∷ []) in
       let last : spelled (attr ∷ []) ≡ attr_bytes attr = append-nil (attr_bytes attr) in
       record {
         within = omega arith;
@@ -132,9 +138,11 @@ module _ (attrs : List Attr) (run name : List ℕ) (spells : Spells attrs run) (
   pub gap_here : by_name (first_name (drop byte run)) name ≡ Greater
       → IsPartitionPoint (λ attr. by_name attr.0 name ≡ Less) (λ attr. by_name attr.0 name ≡ Greater) attrs passed.place
   gap_here is =
-      let rises : IsNonDecreasingBy (λ attr. ordering_index (by_name attr.0 name)) attrs = searchable nat_list_cmp_total attrs name spells.order in
-      (passed.less, λ k d from below.
-        last _ (subst (λ order. ordering_index order ≤ ordering_index (by_name (get_or attrs k d).0 name)) (compares_here Greater is d) (rises passed.place k d from below)))
+      let rises : IsNonDecreasingBy (λ attr. ordering_index (by_name attr.0 name)) attrs = searchable nat_list_cmp_total attrs name spells.order in (
+        passed.less,
+        λ k d from below.
+            last _ (subst (λ order. ordering_index order ≤ ordering_index (by_name (get_or attrs k d).0 name)) (compares_here Greater is d) (rises passed.place k d from below)),
+      )
 
 -- where all are passed the name is missing
 pub gap_at_end : (attrs : List Attr) (run name : List ℕ) (spells : Spells attrs run) (byte : ℕ) (passed : Passed attrs name byte) → length run ≤ byte

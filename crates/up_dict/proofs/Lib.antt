@@ -1,2 +1,5 @@
+pub mod Changed
+pub mod Found
 pub mod InRun
 pub mod ReadBack
+pub mod Refused

@@ -136,7 +136,7 @@ read_within (suc most) (attr ∷ attrs) legal enough =
     let behind : drop (first_size run) run ≡ spelled attrs = drop_at (attr_bytes attr) (spelled attrs) (first_size run) (sym (first_size_reads run attr reads)) in
     unrolled most run (omega (arith, some attr, both))
     ∙ rw (reads.name, first_value_reads run attr first reads, behind)
-      (ap (λ others. attr ∷ others) (read_within most attrs rest (omega (arith, some attr, both, enough))))
+    (ap (λ others. attr ∷ others) (read_within most attrs rest (omega (arith, some attr, both, enough))))
 
 pub attrs_read : (attrs : List Attr) → All IsLegalAttr attrs → attrs_in (spelled attrs) ≡ attrs
 unfolding attrs_in

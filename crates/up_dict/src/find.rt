@@ -4,7 +4,7 @@ ghost use Rattle.up_dict.specs.Held.{IsRun};
 ghost use Rattle.up_dict.specs.Places.{HasFirst, StandBefore, IsFoundAt, IsMissingAt, ComparesAs};
 ghost use Rattle.up_dict.specs.Reading.{attrs_in};
 
-use crate::first::{first_name, first_size};
+use crate::first::{first_name, first_size, rest_from};
 use std::cmp::Ordering;
 
 /// How the first attribute's name compares with one that is looked for.
@@ -35,7 +35,7 @@ pub(crate) fn find(run: &[u8], name: &[u8]) -> Result<usize, usize>
 {
     let mut byte = 0;
     while byte < run.len() {
-        match compare(&run[byte..], name) {
+        match compare(rest_from(run, byte), name) {
             Compared::Less { size } => byte += size,
             Compared::Same => return Ok(byte),
             Compared::Greater => return Err(byte),
@@ -52,7 +52,7 @@ pub(crate) fn count(run: &[u8]) -> usize
     let mut byte = 0;
     let mut count = 0;
     while byte < run.len() {
-        byte += first_size(&run[byte..]);
+        byte += first_size(rest_from(run, byte));
         count += 1;
     }
     count
@@ -66,7 +66,7 @@ pub(crate) fn start_of(run: &[u8], place: usize) -> usize
 {
     let mut byte = 0;
     for _before in 0..place {
-        byte += first_size(&run[byte..]);
+        byte += first_size(rest_from(run, byte));
     }
     byte
 }

@@ -1,5 +1,5 @@
 // The first attribute of a run of bytes.
-ghost use Rattle.std.specs.Prelude.{◌≡◌, ◌<◌, ◌≤◌, true, length};
+ghost use Rattle.std.specs.Prelude.{◌≡◌, ◌<◌, ◌≤◌, true, drop, length};
 ghost use Rattle.up_base.specs.Name.{is_name};
 ghost use Rattle.up_dict.specs.Places.{HasFirst, IsValueOf};
 ghost use Rattle.up_dict.specs.Reading.{first_name, first_size, first_value, value_of};
@@ -10,7 +10,15 @@ use std::str;
 use up_base::{read_u16, read_u64};
 use up_model::ValueView;
 
-/// Its name.
+/// The bytes of the run from one on.
+pub(crate) fn rest_from(run: &[u8], byte: usize) -> &[u8]
+    requires { byte ≤ length run.now }
+    ensures { result.now ≡ drop byte run.now }
+{
+    &run[byte..]
+}
+
+/// The name of the run's first attribute.
 pub(crate) fn first_name(run: &[u8]) -> &[u8]
     requires { HasFirst run.now }
     ensures name { result.now ≡ first_name run.now }
@@ -19,7 +27,7 @@ pub(crate) fn first_name(run: &[u8]) -> &[u8]
     &run[1..1 + usize::from(run[0])]
 }
 
-/// How many bytes it has.
+/// How many bytes the run's first attribute has.
 pub(crate) fn first_size(run: &[u8]) -> usize
     requires { HasFirst run.now }
     ensures size { result ≡ first_size run.now }
@@ -44,7 +52,7 @@ fn value_of(kind: ValueType, bytes: &[u8]) -> ValueView<'_>
     }
 }
 
-/// Its value.
+/// The value of the run's first attribute.
 pub(crate) fn first_value(run: &[u8]) -> ValueView<'_>
     requires { HasFirst run.now }
     ensures { lent result ≡ first_value run.now }

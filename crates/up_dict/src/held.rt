@@ -10,7 +10,7 @@ ghost use Rattle.up_model.specs.Value.{lent, IsLegalValue};
 use crate::SetRefused;
 use crate::edit::{cut, put};
 use crate::find::{count, find, start_of};
-use crate::first::{first_name, first_size, first_value};
+use crate::first::{first_name, first_size, first_value, rest_from};
 use crate::spell::value_size;
 use up_base::{AttrName, NoMemory};
 use up_model::{MAX_ATTRS, MAX_VALUE, ValueView};
@@ -31,7 +31,7 @@ fn replace(
         (held_in run.new.items ≡ map.insert (held_in run.old.items) name.now (lent value.entry)) }
     ensures unchanged { OnErr result (run.new.items ≡ run.old.items) }
 {
-    let size = first_size(&run[byte..]);
+    let size = first_size(rest_from(run, byte));
     put(run, byte, size, name, value)
 }
 
@@ -94,7 +94,7 @@ pub(crate) fn get<'a>(run: &'a [u8], name: &[u8]) -> Option<ValueView<'a>>
         (λ value. map.get (held_in run.now) name.now ≡ Some (lent value)) }
 {
     match find(run, name) {
-        Ok(byte) => Some(first_value(&run[byte..])),
+        Ok(byte) => Some(first_value(rest_from(run, byte))),
         Err(_) => None,
     }
 }
@@ -108,7 +108,7 @@ pub(crate) fn remove(run: &mut Vec<u8>, name: &[u8]) -> bool
 {
     match find(run, name) {
         Ok(byte) => {
-            let size = first_size(&run[byte..]);
+            let size = first_size(rest_from(run, byte));
             cut(run, byte, size);
             true
         }
@@ -131,6 +131,6 @@ pub(crate) fn at(run: &[u8], place: usize) -> (AttrName, ValueView<'_>)
     requires place { place < map.len (held_in run.now) }
     ensures { slice_get (map.entries (held_in run.now)) place ≡ Some (result.0, lent result.1) }
 {
-    let attr = &run[start_of(run, place)..];
+    let attr = rest_from(run, start_of(run, place));
     (AttrName::of(first_name(attr)), first_value(attr))
 }

@@ -16,7 +16,7 @@ pub slice_bounds-value_of-end : goal.slice_bounds-value_of-end
 slice_bounds-value_of-end c =
     let within = first_within c.args.run.now c.requires in
     let end : c.from-place.result + 1 + 3 + c.from-size.result ≤ length c.args.run.now =
-        rw (c.from-size.ensures, c.read_u16.ensures, c.from-place.ensures) within in
+    rw (c.from-size.ensures, c.read_u16.ensures, c.from-place.ensures) within in
     search rules
 
 pub value_of-requires : goal.value_of-requires
