@@ -1,8 +1,8 @@
 -- What an edit of a run spells, and the map that it then holds.
-use Rattle.std.proofs.Common.{◌≡◌, ℕ, zero, suc, ◌+◌, ◌-◌, ◌<◌, ◌≤◌, List, [], ◌∷◌, ◌++◌, length, take, drop, get_or, set, All, true, None, Some, slice_get, is_some, refl, sym, ap, ◌∙◌, subst, arith, append_assoc, length-set, length-drop, add-one, add-zero}
+use Rattle.std.proofs.Common.{◌≡◌, ℕ, suc, ◌+◌, ◌<◌, ◌≤◌, List, [], ◌∷◌, ◌++◌, length, take, drop, set, All, true, refl, sym, ap, ◌∙◌, subst, arith, append_assoc, length-set, add-one, add-zero}
 use Rattle.std.specs.Prelude.{Result, Ok, Err, OnOk, OnErr}
 use Rattle.std.proofs.lemmas.Grind.{flat_map-append}
-use Rattle.std.proofs.lemmas.List.{set_split, append-nil}
+use Rattle.std.proofs.lemmas.List.{set_split}
 use Rattle.std.proofs.lemmas.List.Edits.{length-insert, length-remove}
 use Rattle.std.proofs.lemmas.List.Elements.{All-append, All-cons, All-drop, All-set, All-take}
 use Rattle.std.proofs.lemmas.Map.Lookups.{exact_bytes}
@@ -13,7 +13,7 @@ use Rattle.up_model.proofs.AttrLists.{StandsFor, attrs_of, set-there, set-missin
 use Rattle.up_model.specs.Value.{IsLegalValue}
 use Rattle.up_model.specs.declared.limits.TheConstants.{MAX_ATTRS}
 use Rattle.up_model.specs.declared.value.Value.{Value}
-use Rattle.up_dict.proofs.InRun.{by_name, no_attr, front_is, back_is, one_further, byte_within}
+use Rattle.up_dict.proofs.InRun.{by_name, front_is, back_is, one_further}
 use Rattle.up_dict.proofs.ReadBack.{is_run, spells_one}
 use Rattle.up_dict.specs.Edits.{replaced}
 use Rattle.up_dict.specs.Held.{Spells, IsRun, held_in}

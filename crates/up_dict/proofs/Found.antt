@@ -1,5 +1,5 @@
 -- What the map holds where a name is found in the run, and where it is missing.
-use Rattle.std.proofs.Common.{◌≡◌, ℕ, ◌+◌, ◌<◌, ◌≤◌, List, length, drop, get_or, true, false, None, Some, slice_get, is_some, refl, sym, ap, ◌∙◌, subst, arith, length-drop}
+use Rattle.std.proofs.Common.{◌≡◌, ℕ, ◌+◌, ◌<◌, ◌≤◌, List, length, drop, true, false, None, Some, slice_get, is_some, sym, ap, ◌∙◌, arith, length-drop}
 use Rattle.std.proofs.lemmas.List.{get_or_default}
 use Rattle.std.proofs.lemmas.List.Elements.{All-map}
 use Rattle.std.proofs.lemmas.Option.{slice_get-get_or}
@@ -9,7 +9,6 @@ use Rattle.std.specs.List.{HoldsAt}
 use Rattle.up_model.proofs.AttrLists.{get-there, contains-there, get-missing, remove-missing, len-list}
 use Rattle.up_base.specs.Name.{is_name}
 use Rattle.up_model.specs.Value.{IsLegalValue}
-use Rattle.up_model.specs.declared.value.Value.{Value}
 use Rattle.up_dict.proofs.InRun.{by_name, no_attr, byte_within, first_here, name_here, value_here}
 use Rattle.up_dict.proofs.ReadBack.{first_within}
 use Rattle.up_dict.specs.Held.{AreLegal, IsRun, held_in}

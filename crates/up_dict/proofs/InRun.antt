@@ -1,5 +1,5 @@
 -- Places of attributes in a run, and the bytes at which they begin.
-use Rattle.std.proofs.Common.{◌≡◌, ℕ, zero, suc, ◌+◌, ◌-◌, ◌<◌, ◌≤◌, List, [], ◌∷◌, ◌++◌, length, take, drop, get_or, inl, inr, refl, sym, ap, ◌∙◌, subst, arith, length-append, length-drop, add-one}
+use Rattle.std.proofs.Common.{◌≡◌, ℕ, suc, ◌+◌, ◌<◌, ◌≤◌, List, [], ◌∷◌, ◌++◌, length, take, drop, get_or, inl, inr, refl, sym, ap, ◌∙◌, subst, arith, length-append, length-drop}
 use Rattle.std.proofs.lemmas.Bool.{cases_lt}
 use Rattle.std.proofs.lemmas.Grind.{flat_map-append}
 use Rattle.std.proofs.lemmas.List.{take_at, drop_at, take-append-drop, take_more, drop_all, append-nil, get_or_default}
@@ -13,10 +13,10 @@ use Rattle.std.specs.declared.cmp.Ordering.{Ordering}
 use Rattle.std.specs.declared.cmp.Ordering.TheVariants.{Less, Equal, Greater}
 use Rattle.up_model.proofs.SortedEntries.{searchable}
 use Rattle.up_model.specs.declared.value.Value.TheVariants.{Void}
-use Rattle.up_dict.proofs.ReadBack.{ReadsAs, first_reads, first_size_reads, first_value_reads, first_within}
+use Rattle.up_dict.proofs.ReadBack.{first_reads, first_size_reads, first_value_reads, first_within}
 use Rattle.up_dict.specs.Held.{Spells}
 use Rattle.up_dict.specs.Places.{HasFirst, StandBefore}
-use Rattle.up_dict.specs.Reading.{first_name, first_size, first_value, type_place, value_size}
+use Rattle.up_dict.specs.Reading.{first_name, first_size, first_value}
 use Rattle.up_dict.specs.Spelling.{Attr, attr_bytes, spelled}
 
 -- what a read past the end gives

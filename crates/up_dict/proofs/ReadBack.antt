@@ -1,15 +1,14 @@
 -- What is spelled reads back.
-use Rattle.std.proofs.Common.{◌≡◌, ℕ, zero, suc, ◌+◌, ◌-◌, ◌^◌, ◌<◌, ◌≤◌, List, [], ◌∷◌, ◌++◌, length, take, drop, Bool, true, false, All, refl, sym, ap, ◌∙◌, subst, arith, append_assoc, length-append, lit≤, lit<}
+use Rattle.std.proofs.Common.{◌≡◌, ℕ, zero, suc, ◌+◌, ◌-◌, ◌<◌, ◌≤◌, List, [], ◌∷◌, ◌++◌, length, take, drop, Bool, true, false, All, refl, sym, ap, ◌∙◌, subst, arith, append_assoc, length-append, lit<}
 use Rattle.std.specs.Prelude.{slice_index, slice_range}
 use Rattle.std.proofs.lemmas.List.{take_at, drop_at, get_or_at}
-use Rattle.std.proofs.lemmas.List.Elements.{All-head, All-tail}
-use Rattle.up_base.specs.Name.{is_name}
+use Rattle.std.proofs.lemmas.List.Elements.{All-head, All-nil, All-tail}
 use Rattle.up_base.specs.Number.{big_endian, big_endian_bytes}
 use Rattle.up_base.proofs.NumberBytes.{number_of_bytes}
 use Rattle.up_model.specs.Value.{IsLegalValue}
 use Rattle.up_model.specs.declared.value.Value.{Value}
 use Rattle.up_model.specs.declared.value.Value.TheVariants.{Void, Flag, Unsigned, Words, Opaque}
-use Rattle.up_dict.specs.Held.{Spells, IsRun, held_in}
+use Rattle.up_dict.specs.Held.{Spells, IsRun}
 use Rattle.up_dict.specs.Places.{HasFirst, IsValueOf}
 use Rattle.up_dict.specs.Reading.{type_of_byte, value_of, first_name, type_place, value_size, first_value, first_size, attrs_within, attrs_in}
 use Rattle.up_dict.specs.Spelling.{Attr, IsLegalAttr, type_of, type_byte, value_bytes, attr_bytes, spelled}
@@ -166,3 +165,10 @@ value_part run first =
       same = ap value_bytes same;
       legal = subst IsLegalValue (sym same) first.legal.1;
     })
+
+-- no bytes hold no attributes
+pub none_read : attrs_in [] ≡ []
+none_read = attrs_read [] (All-nil IsLegalAttr)
+
+pub empty_run : IsRun []
+empty_run = is_run [] [] (record { bytes = refl; order = tt; legal = All-nil IsLegalAttr; few = omega arith })

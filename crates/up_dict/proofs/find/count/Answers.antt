@@ -1,4 +1,4 @@
-use Rattle.std.proofs.Common.{◌<◌, ◌≤◌, length, arith}
+use Rattle.std.proofs.Common.{arith}
 use Rattle.up_dict.proofs.InRun.{inside, first_here, one_further, all_before}
 use Rattle.up_dict.specs.Reading.{attrs_in}
 use Rattle.up_dict.proofs.find.count.Goals as goal

@@ -1,4 +1,4 @@
-use Rattle.std.proofs.Common.{◌<◌, ◌≤◌, length, arith}
+use Rattle.std.proofs.Common.{arith}
 use Rattle.up_dict.proofs.InRun.{none_passed, inside, first_there, passed_more, found_here, gap_here, gap_at_end}
 use Rattle.up_dict.specs.Reading.{attrs_in}
 use Rattle.up_dict.proofs.find.find.Goals as goal

@@ -1,4 +1,4 @@
-use Rattle.std.proofs.Common.{◌<◌, ◌≤◌, length, arith}
+use Rattle.std.proofs.Common.{arith}
 use Rattle.up_dict.proofs.InRun.{none_before, byte_within, first_here, one_further}
 use Rattle.up_dict.specs.Reading.{attrs_in}
 use Rattle.up_dict.proofs.find.start_of.Goals as goal

@@ -1,7 +1,4 @@
-use Rattle.std.proofs.Common.{◌≡◌, ◌<◌, ◌≤◌, ◌+◌, length, arith, rules, subst, sym, true}
-use Rattle.std.specs.Prelude.{slice_index, slice_range}
-use Rattle.up_base.specs.Name.{is_name}
-use Rattle.up_dict.specs.Reading.{first_name}
+use Rattle.std.proofs.Common.{◌≤◌, ◌+◌, length, arith, rules}
 use Rattle.up_dict.proofs.ReadBack.{first_reads, first_within}
 use Rattle.up_dict.proofs.first.first_name.Goals as goal
 

@@ -1,6 +1,5 @@
-use Rattle.std.proofs.Common.{◌≡◌, ◌<◌, ◌≤◌, ◌+◌, length, arith, rules, sym}
-use Rattle.up_dict.specs.Reading.{type_place, value_size}
-use Rattle.up_dict.proofs.ReadBack.{first_reads, first_within, value_part}
+use Rattle.std.proofs.Common.{◌≤◌, ◌+◌, length, arith, rules}
+use Rattle.up_dict.proofs.ReadBack.{first_within, value_part}
 use Rattle.up_dict.proofs.first.first_value.Goals as goal
 
 pub bounds-run-0 : goal.bounds-run-0

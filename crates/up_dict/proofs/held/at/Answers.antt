@@ -1,4 +1,4 @@
-use Rattle.std.proofs.Common.{◌≡◌, ◌<◌, ◌≤◌, length, arith, sym, ◌∙◌}
+use Rattle.std.proofs.Common.{◌<◌, length, arith}
 use Rattle.up_dict.proofs.Found.{len_held, held_at}
 use Rattle.up_dict.proofs.InRun.{byte_within, first_here}
 use Rattle.up_dict.specs.Reading.{attrs_in}

@@ -1,4 +1,3 @@
-use Rattle.std.proofs.Common.{◌≡◌, Some, sym, ap, ◌∙◌}
 use Rattle.up_dict.proofs.Found.{found_within, found_first, found_value, missing_value}
 use Rattle.up_dict.proofs.held.get.Goals as goal
 

@@ -1,14 +1,12 @@
-use Rattle.std.proofs.Common.{◌≡◌, ◌≤◌, ◌<◌, ◌+◌, false, Some, None, length, ap, sym, ◌∙◌, refl, arith, rules, subst}
-use Rattle.std.specs.FinMap.{contains_key, insert, len}
+use Rattle.std.proofs.Common.{◌≡◌, ◌≤◌, ◌<◌, length, ap, sym, ◌∙◌, refl, arith, rules}
+use Rattle.std.specs.FinMap.{len}
 use Rattle.up_model.specs.Value.{lent}
 use Rattle.up_model.specs.declared.limits.TheConstants.{MAX_ATTRS}
-use Rattle.up_dict.proofs.Changed.{Holds, inserts}
+use Rattle.up_dict.proofs.Changed.{inserts}
 use Rattle.up_dict.proofs.Found.{missing_within, missing_there, len_held}
 use Rattle.up_dict.proofs.Refused.{refused_full, taken_new}
 use Rattle.up_dict.specs.Held.{held_in}
 use Rattle.up_dict.specs.Reading.{attrs_in}
-use Rattle.up_dict.specs.Refusal.{refusal_of_name}
-use Rattle.up_dict.specs.declared.set_refused.SetRefused.TheVariants.{TooMany}
 use Rattle.up_dict.proofs.held.insert.Goals as goal
 
 pub returns-then-count-ge-MAX_ATTRS-clause-refused : goal.returns-then-count-ge-MAX_ATTRS-clause-refused

@@ -1,4 +1,4 @@
-use Rattle.std.proofs.Common.{◌≡◌, sym, ◌∙◌}
+use Rattle.std.proofs.Common.{sym, ◌∙◌}
 use Rattle.up_dict.proofs.Found.{len_held, held_is_legal}
 use Rattle.up_dict.proofs.held.len.Goals as goal
 

@@ -1,7 +1,6 @@
-use Rattle.std.proofs.Common.{◌≡◌, ◌≤◌, ◌+◌, length, drop, sym, ap, ◌∙◌, refl}
-use Rattle.up_dict.proofs.Changed.{Holds, removes}
+use Rattle.std.proofs.Common.{sym}
+use Rattle.up_dict.proofs.Changed.{removes}
 use Rattle.up_dict.proofs.Found.{found_within, found_first, found_size, found_there, missing_there, missing_removed}
-use Rattle.up_dict.specs.Reading.{first_size}
 use Rattle.up_dict.proofs.held.remove.Goals as goal
 
 pub rest_from-requires : goal.rest_from-requires

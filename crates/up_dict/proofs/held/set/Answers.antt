@@ -1,10 +1,9 @@
-use Rattle.std.proofs.Common.{◌≡◌, ◌≤◌, length, sym, ◌∙◌, arith, rules, refl}
+use Rattle.std.proofs.Common.{◌≤◌, length, sym, arith, rules}
 use Rattle.up_model.specs.Value.{lent}
 use Rattle.up_model.specs.declared.limits.TheConstants.{MAX_VALUE}
 use Rattle.up_dict.proofs.Found.{found_there, missing_there}
-use Rattle.up_dict.proofs.Refused.{fits_value, taken_there, refused_long}
+use Rattle.up_dict.proofs.Refused.{fits_value, taken_there}
 use Rattle.up_dict.specs.Held.{held_in}
-use Rattle.up_dict.specs.Refusal.{refusal_of}
 use Rattle.up_dict.specs.Spelling.{value_bytes}
 use Rattle.up_dict.proofs.held.set.Goals as goal
 
