@@ -32,7 +32,7 @@ module _ (run name : List ℕ) (byte : ℕ) (spells : IsRun run) where
     found_value =
         let here = value_here (attrs_in run) run spells found.place byte found.before found.within in
         let same : HoldsAt (λ attr. attr.1 ≡ first_value (drop byte run)) (attrs_in run) found.place =
-            λ d. ap (λ (attr : Attr). attr.1) (get_or_default (attrs_in run) found.place d no_attr found.within) ∙ sym here in
+        λ d. ap (λ (attr : Attr). attr.1) (get_or_default (attrs_in run) found.place d no_attr found.within) ∙ sym here in
         get-there (attrs_in run) name _ found.place spells.order found.within found.here same
 
     pub found_there : map.contains_key (held_in run) name ≡ true

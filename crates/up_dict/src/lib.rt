@@ -8,8 +8,12 @@ mod edit;
 mod find;
 mod first;
 mod held;
+#[cfg(test)]
+mod many_tests;
 mod set_refused;
 mod spell;
+#[cfg(test)]
+mod tests;
 mod value_type;
 
 pub use date_kind::DateKind;

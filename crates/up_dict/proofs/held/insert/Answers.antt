@@ -15,7 +15,7 @@ returns-then-count-ge-MAX_ATTRS-clause-refused c =
     let name = c.args.name.now in
     let new = missing_there run name c.args.byte c.requires.run c.requires.missing in
     let counted : c.count-count.result ≡ len (held_in run) =
-        c.count-count.ensures ∙ ap (λ bytes. length (attrs_in bytes)) c.deref.ensures.value ∙ sym (len_held run c.requires.run) in
+    c.count-count.ensures ∙ ap (λ bytes. length (attrs_in bytes)) c.deref.ensures.value ∙ sym (len_held run c.requires.run) in
     let full : MAX_ATTRS ≤ len (held_in run) = omega (arith, counted) in
     rw (refused_full (held_in run) name new full, counted) refl
 
@@ -29,7 +29,7 @@ returns-in_err-put-clause-refused c =
     let name = c.args.name.now in
     let new = missing_there run name c.args.byte c.requires.run c.requires.missing in
     let counted : c.count-count.result ≡ len (held_in run) =
-        c.count-count.ensures ∙ ap (λ bytes. length (attrs_in bytes)) c.deref.ensures.value ∙ sym (len_held run c.requires.run) in
+    c.count-count.ensures ∙ ap (λ bytes. length (attrs_in bytes)) c.deref.ensures.value ∙ sym (len_held run c.requires.run) in
     let room : len (held_in run) < MAX_ATTRS = omega (arith, counted) in
     rw (taken_new (held_in run) name new room) (search rules)
 
@@ -37,7 +37,7 @@ pub returns-clause-run : goal.returns-clause-run
 returns-clause-run c =
     let run = c.args.run.now.items in
     let counted : c.count-count.result ≡ length (attrs_in run) =
-        c.count-count.ensures ∙ ap (λ bytes. length (attrs_in bytes)) c.deref.ensures.value in
+    c.count-count.ensures ∙ ap (λ bytes. length (attrs_in bytes)) c.deref.ensures.value in
     let room : length (attrs_in run) < MAX_ATTRS = omega (arith, counted) in
     rw c.in_ok-put.ensures.put
     (inserts run c.args.name.now c.args.byte c.requires.run (lent c.args.value) c.requires.missing c.requires.name c.requires.value room).is_run
@@ -46,7 +46,7 @@ pub returns-clause-set : goal.returns-clause-set
 returns-clause-set c =
     let run = c.args.run.now.items in
     let counted : c.count-count.result ≡ length (attrs_in run) =
-        c.count-count.ensures ∙ ap (λ bytes. length (attrs_in bytes)) c.deref.ensures.value in
+    c.count-count.ensures ∙ ap (λ bytes. length (attrs_in bytes)) c.deref.ensures.value in
     let room : length (attrs_in run) < MAX_ATTRS = omega (arith, counted) in
     rw c.in_ok-put.ensures.put
     (inserts run c.args.name.now c.args.byte c.requires.run (lent c.args.value) c.requires.missing c.requires.name c.requires.value room).held
@@ -57,6 +57,6 @@ returns-clause-refused c =
     let name = c.args.name.now in
     let new = missing_there run name c.args.byte c.requires.run c.requires.missing in
     let counted : c.count-count.result ≡ len (held_in run) =
-        c.count-count.ensures ∙ ap (λ bytes. length (attrs_in bytes)) c.deref.ensures.value ∙ sym (len_held run c.requires.run) in
+    c.count-count.ensures ∙ ap (λ bytes. length (attrs_in bytes)) c.deref.ensures.value ∙ sym (len_held run c.requires.run) in
     let room : len (held_in run) < MAX_ATTRS = omega (arith, counted) in
     rw (taken_new (held_in run) name new room) tt

@@ -32,8 +32,8 @@ put_holds c =
     let change = replaces run c.args.name.now c.args.byte c.requires.run (lent c.args.value) c.requires.found c.requires.name c.requires.value in
     on_ok_weaker c.put.result
     (λ (is : c.put.new.run.items ≡ replaced run c.args.byte c.first_size-size.result (attr_bytes attr)).
-      subst (λ new. Holds new (map.insert (held_in run) c.args.name.now (lent c.args.value)))
-      (sym (is ∙ ap (λ count. replaced run c.args.byte count (attr_bytes attr)) size)) change)
+    subst (λ new. Holds new (map.insert (held_in run) c.args.name.now (lent c.args.value)))
+    (sym (is ∙ ap (λ count. replaced run c.args.byte count (attr_bytes attr)) size)) change)
     c.put.ensures.put
 
 pub returns-clause-run : goal.returns-clause-run
