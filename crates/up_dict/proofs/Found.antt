@@ -8,6 +8,7 @@ use Rattle.std.specs.FinMap.{entries-from_sorted}
 use Rattle.std.specs.List.{HoldsAt}
 use Rattle.up_model.proofs.AttrLists.{get-there, contains-there, get-missing, remove-missing, len-list}
 use Rattle.up_base.specs.Name.{is_name}
+use Rattle.up_model.specs.Attrs.{Attrs}
 use Rattle.up_model.specs.Value.{IsLegalValue}
 use Rattle.up_dict.proofs.InRun.{by_name, no_attr, byte_within, first_here, name_here, value_here}
 use Rattle.up_dict.proofs.ReadBack.{first_within}
@@ -53,6 +54,10 @@ module _ (run name : List ℕ) (byte : ℕ) (spells : IsRun run) where
 
 pub len_held : (run : List ℕ) → IsRun run → map.len (held_in run) ≡ length (attrs_in run)
 len_held run spells = len-list (attrs_in run) spells.order
+
+-- a place of the map is one of the run
+pub place_held : (run : List ℕ) → IsRun run → (attrs : Attrs) → held_in run ≡ attrs → (place : ℕ) → place < map.len attrs → place < length (attrs_in run)
+place_held run spells attrs is place below = omega (arith, len_held run spells, ap map.len is)
 
 module _ (run : List ℕ) (spells : IsRun run) where
   -- the map has the attributes of the run in their order

@@ -6,11 +6,16 @@ ghost use Rattle.up_dict.specs.Held.{AreLegal};
 ghost use Rattle.up_dict.specs.Refusal.{Answers, refusal_of};
 ghost use Rattle.up_model.specs.Value.{lent};
 
-use crate::{DateKind, SetRefused, held};
+use crate::edit::cut;
+use crate::find::{count, find, start_of};
+use crate::first::{first_name, first_size, first_value, rest_from};
+use crate::held::{insert, replace};
+use crate::spell::value_size;
+use crate::{DateKind, SetRefused};
 use std::alloc::Global;
 use std::marker::Model;
 use up_base::{AttrName, NoMemory};
-use up_model::ValueView;
+use up_model::{MAX_VALUE, ValueView};
 
 /// The attributes of a packet: values by their names, in the byte order of the names. There are at most `MAX_ATTRS`, and
 /// each text and opaque value has at most `MAX_VALUE` bytes.
@@ -53,7 +58,20 @@ impl Dict {
         ensures refused { Answers (refusal_of self.old name.now (lent value.entry)) result }
         ensures unchanged { OnErr result (self.new ≡ self.old) }
     {
-        held::set(&mut self.run, name.bytes(), value)
+        let len = value_size(value);
+        if len > MAX_VALUE {
+            return Err(SetRefused::TooLong { len });
+        }
+        match find(&self.run, name.bytes()) {
+            Ok(byte) => {
+                replace(&mut self.run, byte, name.bytes(), value)?;
+                Ok(true)
+            }
+            Err(byte) => {
+                insert(&mut self.run, byte, name.bytes(), value)?;
+                Ok(false)
+            }
+        }
     }
 
     /// The value of the attribute, where it is there.
@@ -62,7 +80,10 @@ impl Dict {
             (map.get self.now name.now ≡ None)
             (λ value. map.get self.now name.now ≡ Some (lent value)) }
     {
-        held::get(&self.run, name.bytes())
+        match find(&self.run, name.bytes()) {
+            Ok(byte) => Some(first_value(rest_from(&self.run, byte))),
+            Err(_) => None,
+        }
     }
 
     /// Takes the attribute away, and says whether it was there.
@@ -70,14 +91,21 @@ impl Dict {
         ensures gone { self.new ≡ map.remove self.old name.now }
         ensures there { result ≡ map.contains_key self.old name.now }
     {
-        held::remove(&mut self.run, name.bytes())
+        match find(&self.run, name.bytes()) {
+            Ok(byte) => {
+                let size = first_size(rest_from(&self.run, byte));
+                cut(&mut self.run, byte, size);
+                true
+            }
+            Err(_) => false,
+        }
     }
 
     pub fn len(&self) -> usize
         ensures len { result ≡ map.len self.now }
         ensures legal { AreLegal self.now }
     {
-        held::len(&self.run)
+        count(&self.run)
     }
 
     /// The attribute at a place of the rising names, counted from 0.
@@ -85,14 +113,16 @@ impl Dict {
         requires { i < map.len self.now }
         ensures { slice_get (map.entries self.now) i ≡ Some (result.0, lent result.1) }
     {
-        held::at(&self.run, i)
+        let byte = start_of(&self.run, i);
+        let attr = rest_from(&self.run, byte);
+        (AttrName::of(first_name(attr)), first_value(attr))
     }
 
     /// The number that the attribute of the date has. `None` where it isn't there, or its value is no number.
     pub fn date(&self, which: DateKind) -> Option<u64>
         ensures { result ≡ date_of (map.get self.now (date_name which)) }
     {
-        match held::get(&self.run, which.name()) {
+        match self.get(&AttrName::of(which.name())) {
             Some(ValueView::Unsigned(number)) => Some(number),
             _ => None,
         }
