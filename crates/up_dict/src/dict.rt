@@ -6,16 +6,15 @@ ghost use Rattle.up_dict.specs.Held.{AreLegal};
 ghost use Rattle.up_dict.specs.Refusal.{Answers, refusal_of};
 ghost use Rattle.up_model.specs.Value.{lent};
 
-use crate::edit::cut;
+use crate::edit::{cut, put};
 use crate::find::{count, find, start_of};
 use crate::first::{first_name, first_size, first_value, rest_from};
-use crate::held::{insert, replace};
 use crate::spell::value_size;
 use crate::{DateKind, SetRefused};
 use std::alloc::Global;
 use std::marker::Model;
 use up_base::{AttrName, NoMemory};
-use up_model::{MAX_VALUE, ValueView};
+use up_model::{MAX_ATTRS, MAX_VALUE, ValueView};
 
 /// The attributes of a packet: values by their names, in the byte order of the names. There are at most `MAX_ATTRS`, and
 /// each text and opaque value has at most `MAX_VALUE` bytes.
@@ -62,13 +61,19 @@ impl Dict {
         if len > MAX_VALUE {
             return Err(SetRefused::TooLong { len });
         }
-        match find(&self.run, name.bytes()) {
+        let found = find(&self.run, name.bytes());
+        match found {
             Ok(byte) => {
-                replace(&mut self.run, byte, name.bytes(), value)?;
+                let size = first_size(rest_from(&self.run, byte));
+                put(&mut self.run, byte, size, name.bytes(), value)?;
                 Ok(true)
             }
             Err(byte) => {
-                insert(&mut self.run, byte, name.bytes(), value)?;
+                let count = count(&self.run);
+                if count >= MAX_ATTRS {
+                    return Err(SetRefused::TooMany { count });
+                }
+                put(&mut self.run, byte, 0, name.bytes(), value)?;
                 Ok(false)
             }
         }
@@ -91,7 +96,8 @@ impl Dict {
         ensures gone { self.new ≡ map.remove self.old name.now }
         ensures there { result ≡ map.contains_key self.old name.now }
     {
-        match find(&self.run, name.bytes()) {
+        let found = find(&self.run, name.bytes());
+        match found {
             Ok(byte) => {
                 let size = first_size(rest_from(&self.run, byte));
                 cut(&mut self.run, byte, size);

@@ -7,7 +7,6 @@ mod dict;
 mod edit;
 mod find;
 mod first;
-mod held;
 #[cfg(test)]
 mod many_tests;
 mod set_refused;
