@@ -26,11 +26,6 @@ pub record Holds (run : List ℕ) (attrs : map.FinMap by_name Value) : Type 0 wh
   pub is_run : IsRun run
   pub held : held_in run ≡ attrs
 
--- an edit that was refused leaves a run
-pub edited : {T E : Type 0} (result : Result T E) (old new : List ℕ) → IsRun old → OnOk result (IsRun new) → OnErr result (new ≡ old) → IsRun new
-edited (Ok value) old new is_run done refused = done
-edited (Err error) old new is_run done refused = subst IsRun (sym refused) is_run
-
 -- a run that spells a list holds what the list stands for
 holds : (attrs : List Attr) (run : List ℕ) (held : map.FinMap by_name Value)
     → spelled attrs ≡ run → All IsLegalAttr attrs → length attrs ≤ MAX_ATTRS → StandsFor attrs held → Holds run held
