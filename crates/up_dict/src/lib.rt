@@ -7,6 +7,7 @@ mod dict;
 mod edit;
 mod find;
 mod first;
+mod laws;
 #[cfg(test)]
 mod many_tests;
 mod set_refused;
@@ -17,4 +18,5 @@ mod value_type;
 
 pub use date_kind::DateKind;
 pub use dict::Dict;
+pub use laws::attributes_read_back;
 pub use set_refused::SetRefused;
