@@ -46,6 +46,7 @@ pub record IsMissingAt (run name : List ℕ) (byte : ℕ) : Type 0 where
 -- how the first name compares with another, and where it is less the attribute's size
 abbrev pub ComparesAs : List ℕ → List ℕ → Compared → Type 0
 ComparesAs run name (compared.Less size) =
-    (slice_cmp nat_cmp (first_name run) name ≡ Less) × (size ≡ first_size run) × (0 < size) × (size ≤ length run)
+    (slice_cmp nat_cmp (first_name run) name ≡ Less)
+    × (size ≡ first_size run) × (0 < size) × (size ≤ length run)
 ComparesAs run name compared.Same = slice_cmp nat_cmp (first_name run) name ≡ Equal
 ComparesAs run name compared.Greater = slice_cmp nat_cmp (first_name run) name ≡ Greater

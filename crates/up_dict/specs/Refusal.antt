@@ -1,4 +1,4 @@
--- Why an attribute isn't set: the size of the value is looked at first, then the number of attributes.
+-- Why an attribute isn't set: the size of the value comes first, then the number of attributes.
 use Rattle.std.specs.Prelude.{◌≡◌, ℕ, not, ◌&&◌, nat_lt, nat_le, List, length, Option, Some, None, Result, Err, IfErr, if◌then◌else◌}
 use Rattle.std.specs.FinMap.{contains_key, len}
 use Rattle.up_model.specs.Attrs.{Attrs}

@@ -1,6 +1,6 @@
--- Attributes as one run of bytes. Of each stand, in this order: the length of its name (1 byte), the
--- name, the type of its value (1 byte), the length of the value (2 bytes, the higher byte first), the
--- value.
+-- Attributes as one run of bytes. Of each stand, in this order: the length of its name (1 byte),
+-- the name, the type of its value (1 byte), the length of the value (2 bytes, the higher byte
+-- first), the value.
 use Rattle.std.specs.Prelude.{◌≡◌, ℕ, true, List, [], ◌∷◌, ◌++◌, length, if◌then◌else◌}
 use Rattle.std.specs.List.{flat_map}
 use Rattle.up_base.specs.Name.{is_name}

@@ -16,8 +16,8 @@ use std::marker::Model;
 use up_base::{AttrName, NoMemory};
 use up_model::{MAX_ATTRS, MAX_VALUE, ValueView};
 
-/// The attributes of a packet: values by their names, in the byte order of the names. There are at most `MAX_ATTRS`, and
-/// each text and opaque value has at most `MAX_VALUE` bytes.
+/// The attributes of a packet: values by their names, in the byte order of the names. There are at
+/// most `MAX_ATTRS`, and each text and opaque value has at most `MAX_VALUE` bytes.
 #[derive(Debug, Drop)]
 pub struct Dict {
     run: Vec<u8>,
@@ -50,7 +50,7 @@ impl Dict {
         }
     }
 
-    /// Gives the attribute this value, and says whether it was there before.
+    /// Gives the attribute this value, and says whether it was there before. A refusal changes nothing.
     pub fn set(&mut self, name: &AttrName, value: ValueView<'_>) -> Result<bool, SetRefused>
         ensures set { OnOk result (self.new ≡ map.insert self.old name.now (lent value.entry)) }
         ensures there { IfOk result (λ there. there ≡ map.contains_key self.old name.now) }
@@ -107,6 +107,7 @@ impl Dict {
         }
     }
 
+    /// How many attributes there are. They are legal.
     pub fn len(&self) -> usize
         ensures len { result ≡ map.len self.now }
         ensures legal { AreLegal self.now }
@@ -124,7 +125,7 @@ impl Dict {
         (AttrName::of(first_name(attr)), first_value(attr))
     }
 
-    /// The number that the attribute of the date has. `None` where it isn't there, or its value is no number.
+    /// The number of the date. `None` where its attribute isn't there, or its value is no number.
     pub fn date(&self, which: DateKind) -> Option<u64>
         ensures { result ≡ date_of (map.get self.now (date_name which)) }
     {

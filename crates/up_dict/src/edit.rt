@@ -1,14 +1,14 @@
 // Edits of a run of bytes.
-ghost use Rattle.std.specs.Prelude.{◌≡◌, ℕ, ◌+◌, ◌<◌, ◌≤◌, ◌++◌, [], length, OnOk, OnErr};
+ghost use Rattle.std.specs.Prelude.{◌≡◌, ◌+◌, ◌≤◌, [], length, OnOk, OnErr};
 ghost use Rattle.up_dict.specs.Edits.{replaced, turned};
-ghost use Rattle.up_dict.specs.Spelling.{attr_bytes, value_bytes};
+ghost use Rattle.up_dict.specs.Spelling.{IsLegalAttr, attr_bytes};
 ghost use Rattle.up_model.specs.Value.{lent};
 
 use crate::spell::add_attr;
 use up_base::NoMemory;
 use up_model::ValueView;
 
-/// So many of the bytes from one on go behind those that follow them.
+/// So many bytes from one on go behind those that follow them.
 fn turn(run: &mut Vec<u8>, byte: usize, count: usize)
     requires { byte + count ≤ length run.old.items }
     ensures { run.new.items ≡ turned run.old.items byte count }
@@ -25,7 +25,7 @@ pub(crate) fn cut(run: &mut Vec<u8>, byte: usize, count: usize)
     run.truncate(run.len() - count);
 }
 
-/// Puts an attribute in the place of so many bytes from one on. Room for it is taken before any byte moves.
+/// Puts an attribute in the place of so many bytes from one on. Room is taken before any byte moves.
 pub(crate) fn put(
     run: &mut Vec<u8>,
     byte: usize,
@@ -34,9 +34,9 @@ pub(crate) fn put(
     value: ValueView<'_>,
 ) -> Result<(), NoMemory>
     requires within { byte + count ≤ length run.old.items }
-    requires name { length name.now < 256 }
-    requires value { length (value_bytes (lent value)) < 65536 }
-    ensures put { OnOk result (run.new.items ≡ replaced run.old.items byte count (attr_bytes (name.now, lent value.entry))) }
+    requires legal { IsLegalAttr (name.now, lent value) }
+    ensures put { OnOk result (run.new.items
+        ≡ replaced run.old.items byte count (attr_bytes (name.now, lent value.entry))) }
     ensures unchanged { OnErr result (run.new.items ≡ run.old.items) }
 {
     let behind = run.len() - byte - count;

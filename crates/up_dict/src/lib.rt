@@ -1,5 +1,5 @@
-//! The attributes of a packet in one run of bytes: a finite map from names to values that takes memory only where it holds
-//! something, and whose copy is a copy of bytes.
+//! The attributes of a packet in one run of bytes: a finite map from names to values whose copy is a
+//! copy of bytes, and which takes no memory before its first attribute.
 #![tactic(auto)]
 
 mod date_kind;

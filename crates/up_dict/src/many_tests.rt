@@ -6,8 +6,8 @@ use std::test::Fail;
 use up_base::{AttrName, Bytes, Text};
 use up_model::{PlainAttrs, Value, ValueView};
 
-/// In byte order: `-` and `.` come before digits, these before capital letters, then `_`, then small letters; a name
-/// comes before those that begin with it.
+/// In byte order: `-` and `.` come before digits, these before capital letters, then `_`, then small
+/// letters; a name comes before those that begin with it.
 const RISING: [&str; 10] = ["0", "Z", "_", "a", "a-", "a.", "a.b", "aa", "ab", "b"];
 
 /// Set in this order, the attributes stand in the rising order of their names.

@@ -1,14 +1,14 @@
 // The bytes of an attribute, put at the end of a run.
-ghost use Rattle.std.specs.Prelude.{◌≡◌, ℕ, ◌<◌, ◌≤◌, ◌++◌, ◌^◌, true, length, take, OnOk, OnErr};
+ghost use Rattle.std.specs.Prelude.{◌≡◌, ◌<◌, ◌≤◌, ◌++◌, true, length, take, OnOk, OnErr};
 ghost use Rattle.std.specs.Str.{is_utf8};
-ghost use Rattle.up_dict.specs.Spelling.{attr_bytes, head_bytes, value_bytes};
+ghost use Rattle.up_dict.specs.Spelling.{IsLegalAttr, attr_bytes, head_bytes, value_bytes};
 ghost use Rattle.up_model.specs.Value.{lent, IsLegalValue};
 
 use crate::value_type::ValueType;
 use up_base::NoMemory;
 use up_model::{MAX_VALUE, ValueView};
 
-/// How many bytes a text has.
+/// How many bytes a text has. It is UTF-8, as every text.
 fn text_size(text: &str) -> usize
     ensures size { result ≡ length text.now }
     ensures utf8 { is_utf8 text.now ≡ true }
@@ -60,9 +60,9 @@ fn push_value(run: &mut Vec<u8>, value: ValueView<'_>) -> Result<(), NoMemory>
 
 /// Puts the bytes of an attribute. After `NoMemory` a part of them may stand there.
 fn push_attr(run: &mut Vec<u8>, name: &[u8], value: ValueView<'_>) -> Result<(), NoMemory>
-    requires name { length name.now < 256 }
-    requires value { length (value_bytes (lent value)) < 65536 }
-    ensures added { OnOk result (run.new.items ≡ run.old.items ++ attr_bytes (name.now, lent value.entry)) }
+    requires { IsLegalAttr (name.now, lent value) }
+    ensures added { OnOk result
+        (run.new.items ≡ run.old.items ++ attr_bytes (name.now, lent value.entry)) }
     ensures before { OnErr result (take (length run.old.items) run.new.items ≡ run.old.items) }
 {
     let size = value_size(value);
@@ -73,9 +73,9 @@ fn push_attr(run: &mut Vec<u8>, name: &[u8], value: ValueView<'_>) -> Result<(),
 
 /// Adds an attribute at the end.
 pub(crate) fn add_attr(run: &mut Vec<u8>, name: &[u8], value: ValueView<'_>) -> Result<(), NoMemory>
-    requires name { length name.now < 256 }
-    requires value { length (value_bytes (lent value)) < 65536 }
-    ensures added { OnOk result (run.new.items ≡ run.old.items ++ attr_bytes (name.now, lent value.entry)) }
+    requires { IsLegalAttr (name.now, lent value) }
+    ensures added { OnOk result
+        (run.new.items ≡ run.old.items ++ attr_bytes (name.now, lent value.entry)) }
     ensures unchanged { OnErr result (run.new.items ≡ run.old.items) }
 {
     let len = run.len();
