@@ -11,7 +11,6 @@ use Rattle.up_dict.specs.Places.{IsFoundAt, IsMissingAt}
 use Rattle.up_dict.specs.Reading.{attrs_in}
 use Rattle.up_dict.specs.Refusal.{refusal_of, refusal_of_name}
 use Rattle.up_dict.specs.Spelling.{value_bytes}
-use Rattle.up_dict.specs.declared.set_refused.SetRefused.{SetRefused}
 use Rattle.up_dict.specs.declared.set_refused.SetRefused.TheVariants.{TooMany}
 
 module _ (held : Attrs) (name : List ℕ) where

@@ -4,12 +4,12 @@ use Rattle.up_dict.proofs.dict.Dict.get.Goals as goal
 pub rest_from-requires : goal.rest_from-requires
 rest_from-requires c =
     let found = rw (c.deref.ensures.value, c.bytes.ensures.bytes) at c.in-Ok.ensures in
-    rw c.deref-in-Ok.ensures.value (found_within c.self.inside.run.items c.args.name.now c.in-Ok.byte c.self.invariant found)
+    rw c.deref-in-Ok.ensures.value (found_within c.self.inside.run.items _ c.in-Ok.byte c.self.invariant found)
 
 pub first_value-requires : goal.first_value-requires
 first_value-requires c =
     let found = rw (c.deref.ensures.value, c.bytes.ensures.bytes) at c.in-Ok.ensures in
-    rw (c.rest_from.ensures, c.deref-in-Ok.ensures.value) (found_first c.self.inside.run.items c.args.name.now c.in-Ok.byte c.self.invariant found)
+    rw (c.rest_from.ensures, c.deref-in-Ok.ensures.value) (found_first c.self.inside.run.items _ c.in-Ok.byte c.self.invariant found)
 
 pub returns-in-Ok : goal.returns-in-Ok
 returns-in-Ok c =

@@ -1,23 +1,23 @@
-use Rattle.std.proofs.Common.{sym}
-use Rattle.up_dict.proofs.Changed.{Holds, removes}
+use Rattle.std.proofs.Common.{sym, arith}
+use Rattle.up_dict.proofs.Changed.{removes}
 use Rattle.up_dict.proofs.Found.{found_within, found_first, found_size, found_there, missing_there, missing_removed}
 use Rattle.up_dict.proofs.dict.Dict.remove.Goals as goal
 
 pub rest_from-requires : goal.rest_from-requires
 rest_from-requires c =
     let found = rw (c.deref.ensures.value, c.bytes.ensures.bytes) at c.in-Ok.ensures in
-    rw c.deref-in-Ok.ensures.value (found_within c.self.inside.run.items c.args.name.now c.in-Ok.byte c.self.invariant found)
+    rw c.deref-in-Ok.ensures.value (found_within c.self.inside.run.items _ c.in-Ok.byte c.self.invariant found)
 
 pub first_size-size-requires : goal.first_size-size-requires
 first_size-size-requires c =
     let found = rw (c.deref.ensures.value, c.bytes.ensures.bytes) at c.in-Ok.ensures in
-    rw (c.rest_from.ensures, c.deref-in-Ok.ensures.value) (found_first c.self.inside.run.items c.args.name.now c.in-Ok.byte c.self.invariant found)
+    rw (c.rest_from.ensures, c.deref-in-Ok.ensures.value) (found_first c.self.inside.run.items _ c.in-Ok.byte c.self.invariant found)
 
 pub cut-requires : goal.cut-requires
 cut-requires c =
     let found = rw (c.deref.ensures.value, c.bytes.ensures.bytes) at c.in-Ok.ensures in
-    rw (c.first_size-size.ensures.size, c.rest_from.ensures, c.deref-in-Ok.ensures.value)
-    (found_size c.self.inside.run.items c.args.name.now c.in-Ok.byte c.self.invariant found)
+    let size = rw (c.rest_from.ensures, c.deref-in-Ok.ensures.value) at c.first_size-size.ensures.size in
+    omega (arith, size, found_size c.self.inside.run.items _ c.in-Ok.byte c.self.invariant found)
 
 pub invariant_of-self : goal.invariant_of-self
 invariant_of-self c =

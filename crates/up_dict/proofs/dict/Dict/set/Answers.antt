@@ -1,7 +1,7 @@
-use Rattle.std.proofs.Common.{◌≡◌, ◌<◌, ◌≤◌, length, sym, arith, rules, refl}
+use Rattle.std.proofs.Common.{◌≤◌, length, sym, arith, rules, refl}
 use Rattle.up_model.specs.Value.{lent}
 use Rattle.up_model.specs.declared.limits.TheConstants.{MAX_VALUE}
-use Rattle.up_dict.proofs.Changed.{Holds, replaces, inserts}
+use Rattle.up_dict.proofs.Changed.{replaces, inserts}
 use Rattle.up_dict.proofs.Found.{found_within, found_first, found_size, found_there, missing_within, missing_there}
 use Rattle.up_dict.proofs.Refused.{taken_there, taken_new, refused_new}
 use Rattle.up_dict.specs.Spelling.{value_bytes}
@@ -10,19 +10,19 @@ use Rattle.up_dict.proofs.dict.Dict.set.Goals as goal
 pub rest_from-requires : goal.rest_from-requires
 rest_from-requires c =
     let found = rw (c.deref.ensures.value, c.bytes.ensures.bytes) at c.in-Ok.ensures in
-    rw c.deref-in-Ok.ensures.value (found_within c.self.inside.run.items c.args.name.now c.in-Ok.byte c.self.invariant found)
+    rw c.deref-in-Ok.ensures.value (found_within c.self.inside.run.items _ c.in-Ok.byte c.self.invariant found)
 
 pub first_size-size-requires : goal.first_size-size-requires
 first_size-size-requires c =
     let found = rw (c.deref.ensures.value, c.bytes.ensures.bytes) at c.in-Ok.ensures in
     rw (c.rest_from.ensures, c.deref-in-Ok.ensures.value)
-    (found_first c.self.inside.run.items c.args.name.now c.in-Ok.byte c.self.invariant found)
+    (found_first c.self.inside.run.items _ c.in-Ok.byte c.self.invariant found)
 
 pub put-requires-clause-within : goal.put-requires-clause-within
 put-requires-clause-within c =
     let found = rw (c.deref.ensures.value, c.bytes.ensures.bytes) at c.in-Ok.ensures in
-    rw (c.first_size-size.ensures.size, c.rest_from.ensures, c.deref-in-Ok.ensures.value)
-    (found_size c.self.inside.run.items c.args.name.now c.in-Ok.byte c.self.invariant found)
+    let size = rw (c.rest_from.ensures, c.deref-in-Ok.ensures.value) at c.first_size-size.ensures.size in
+    omega (arith, size, found_size c.self.inside.run.items _ c.in-Ok.byte c.self.invariant found)
 
 pub invariant_of-self-in-Ok : goal.invariant_of-self-in-Ok
 invariant_of-self-in-Ok c =
