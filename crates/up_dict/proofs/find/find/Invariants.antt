@@ -1,0 +1,10 @@
+use Rattle.std.proofs.Common.{length, ◌-◌}
+use Rattle.up_dict.proofs.InRun.{Passed}
+use Rattle.up_dict.specs.Reading.{attrs_in}
+use Rattle.up_dict.proofs.find.find.Given as goal
+
+abbrev pub invariant-loop-byte : goal.invariant-loop-byte
+invariant-loop-byte l = Passed (attrs_in l.run) l.name l.byte
+
+abbrev pub decreases-loop-byte : goal.decreases-loop-byte
+decreases-loop-byte l = length l.run - l.byte

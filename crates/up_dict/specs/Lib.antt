@@ -1,0 +1,7 @@
+pub mod Dates
+pub mod Edits
+pub mod Held
+pub mod Places
+pub mod Reading
+pub mod Refusal
+pub mod Spelling

@@ -1,0 +1,22 @@
+//! The attributes of a packet in one run of bytes: a finite map from names to values whose copy is a
+//! copy of bytes, and which takes no memory before its first attribute.
+#![tactic(auto)]
+
+mod date_kind;
+mod dict;
+mod edit;
+mod find;
+mod first;
+mod laws;
+#[cfg(test)]
+mod many_tests;
+mod set_refused;
+mod spell;
+#[cfg(test)]
+mod tests;
+mod value_type;
+
+pub use date_kind::DateKind;
+pub use dict::Dict;
+pub use laws::attributes_read_back;
+pub use set_refused::SetRefused;
