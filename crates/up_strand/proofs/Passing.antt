@@ -333,6 +333,7 @@ takers_same place olds news (Some takers) same placed between =
     record {
       rising = between.rising;
       within = omega (arith, inside);
+      first = λ d. rw (placed takers.first d (omega (arith, inside, between.rising))).input (between.first d);
       last = λ d. rw (placed takers.last d inside).input (between.last d);
       all = λ i d within takes. between.all i d (omega arith) (rw (← (placed i d (omega arith)).input) takes);
     }
