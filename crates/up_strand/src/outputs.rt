@@ -72,16 +72,19 @@ impl<P: LocalPacket, S: Source, K: Sink> Strand<P, S, K> {
         }
     }
 
-    /// Nothing that was taken out can come back, and what waits is known.
+    /// Nothing that was taken out can come back, and what waits is known. It looks behind the nodes of the pipes, at which
+    /// nothing waits for a lane.
     pub(crate) fn look_for_output(&mut self)
         requires closed { length self.old.closed.items ≡ length self.old.tree.nodes.items }
         requires kept { self.old.kept ≡ None }
+        requires pipes { (i : ℕ) → i < length self.old.caught.items
+            → has_item self.old i ≡ false }
         ensures same { self.new ≡ record self.old { last = None; ready = self.new.ready } }
         ensures ready { self.new.ready
             ≡ option_map_or (λ i. i) (first_ready self.new) (length self.new.tree.nodes.items) }
     {
         self.last = None;
-        self.ready = self.ready_from(0);
+        self.ready = self.ready_from(self.caught.len());
     }
 }
 
