@@ -10,7 +10,7 @@ use Rattle.up_strand.specs.declared.fill.Filled.{Filled}
 use Rattle.up_strand.specs.declared.fill.Stop.{Stop}
 use Rattle.up_strand.specs.declared.fill.Stop.TheVariants as stops
 use Rattle.up_strand.specs.declared.source_packet.Next.{Next}
-use Rattle.up_strand.specs.declared.source_packet.Next.TheVariants.{Packet, Last, End, Fault, TooLong, NoMemory}
+use Rattle.up_strand.specs.declared.source_packet.Next.TheVariants.{Packet, Last, End, Fault, TooLong, NoRoom, NoMemory}
 
 -- these bytes were read, so many, and the entry is the same
 pub record WereRead (old new : SourceState) (bytes : List ℕ) (count : ℕ) : Type 0 where
@@ -37,6 +37,7 @@ is_read_fault (Last p) = false
 is_read_fault End = false
 is_read_fault Fault = true
 is_read_fault TooLong = false
+is_read_fault NoRoom = false
 is_read_fault NoMemory = false
 
 module _ {P : Type 0} (plain : P → PlainPacket) (block left : ℕ) where
@@ -49,6 +50,7 @@ module _ {P : Type 0} (plain : P → PlainPacket) (block left : ℕ) where
   AreReadAs rest taken End = (taken ≡ []) × IsAtEnd rest
   AreReadAs rest taken Fault = (length taken < block) × (length taken ≤ left)
   AreReadAs rest taken TooLong = length taken ≡ left + 1
+  AreReadAs rest taken NoRoom = taken ≡ []
   AreReadAs rest taken NoMemory = Unit {0}
 
   -- a source that may give so many bytes more gave at most a block, and at most one byte more than that
@@ -67,6 +69,7 @@ NextFits fits family (Last p) = fits p family
 NextFits fits family End = Unit {0}
 NextFits fits family Fault = Unit {0}
 NextFits fits family TooLong = Unit {0}
+NextFits fits family NoRoom = Unit {0}
 NextFits fits family NoMemory = Unit {0}
 
 -- more was drawn of the store wherever there was room to read into
@@ -76,4 +79,5 @@ DrewFor before now (Last p) = before < now
 DrewFor before now End = before < now
 DrewFor before now Fault = before < now
 DrewFor before now TooLong = before < now
-DrewFor before now NoMemory = Unit {0}
+DrewFor before now NoRoom = Unit {0}
+DrewFor before now NoMemory = before < now

@@ -125,7 +125,7 @@ module _ {P S K : Type 0} (plain : P → PlainPacket) (reads : S → SourceState
     pub stays : h.short ≡ true → short ≡ true
 
   -- the source gave a packet's worth of bytes, or its flow ended; what was fed was drawn of the
-  -- store, and so was the room that was read into
+  -- store, and so was the room that was read into: without it nothing was read
   pub record SteppedRead {F : Type 0} (strand : Strand P S K) (h : History)
       (old new : StoreState F) : Type 0 where
     pub step : Stepped strand h []
@@ -135,6 +135,7 @@ module _ {P S K : Type 0} (plain : P → PlainPacket) (reads : S → SourceState
         → slice_get h.pipes h.head ≡ Some pipe
         → pipe.kind ≡ kinds.Source path (Raw size) limit → length step.read ≤ size
     pub room : step.ended ≢ Some outcomes.NoMemory → old.drawn < new.drawn
+    pub into : 0 < length step.read → old.drawn < new.drawn
     pub drawn : old.drawn + length step.fed ≤ new.drawn
 
   -- the item came through the lane of the head

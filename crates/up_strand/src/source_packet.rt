@@ -23,7 +23,9 @@ pub enum Next<P> {
     Fault,
     /// It has more bytes than its limit.
     TooLong,
-    /// No memory was found.
+    /// No room was found to read into: nothing was read.
+    NoRoom,
+    /// No memory was found for a packet of what was read, which is lost.
     NoMemory,
 }
 
@@ -74,7 +76,7 @@ pub fn read_packet<P: LocalPacket, S: Source>(
     ensures store { Stays (P.Store.state s.old) (P.Store.state s.new) }
 {
     let Ok(mut room) = P::room(block, s) else {
-        return Next::NoMemory;
+        return Next::NoRoom;
     };
     let want = u64::from(block).min(left + 1) as u32;
     let Filled { count, stop } = fill_room::<P, S>(source, &mut room, want as usize);

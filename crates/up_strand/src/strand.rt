@@ -153,6 +153,7 @@ impl<P: LocalPacket, S: Source, K: Sink> Strand<P, S, K> {
             Next::Fault => self.end(Outcome::ReadFault, s),
             Next::TooLong => self.end(Outcome::TooLong { limit }, s),
             Next::NoMemory => self.run_short(s),
+            Next::NoRoom => self.run_short(s),
         }
     }
 
