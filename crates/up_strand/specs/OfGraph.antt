@@ -7,7 +7,7 @@ use Rattle.up_base.specs.Lists.{IsPrefix}
 use Rattle.up_model.specs.Kinds.{module_kind}
 use Rattle.up_model.specs.Meaning.{Doing, Feeding, is_fed_by, selected, flow_by, pipe_work, input_by, bytes_by}
 use Rattle.up_model.specs.Packet.{Flow}
-use Rattle.up_model.specs.Tallies.{stopped}
+use Rattle.up_model.specs.Tallies.{IsAtMost, stopped}
 use Rattle.up_model.specs.declared.pipe.Pipe.{Pipe}
 use Rattle.up_outside.specs.States.{SinkState}
 use Rattle.up_strand.specs.Nodes.{Seat, is_outlet, takes_from}
@@ -77,8 +77,8 @@ module _ (does : Doing) (pipes : List Pipe) (given : Feeding) where
           → slice_get pipes (places i) ≡ Some pipe
           → Appends (past.seats i).start.written (state sink).written (bytes_by does pipes given (places i) pipe)
 
-    -- what has left each node is a prefix of what the graph says, each outlet was given a prefix of what its input is to put out,
-    -- and each sink, also one that failed or at which memory ran out, a prefix of its bytes
+    -- what has left each node is a prefix of what the graph says, no node counted more than that, each outlet was given a prefix
+    -- of what its input is to put out, and each sink, also one that failed or at which memory ran out, a prefix of its bytes
     pub record IsReachedInPart (nodes : List (Node P K)) (past : Past) : Type 0 where
       pub put : (i : ℕ) (d : Node P K) → i < length nodes
           → is_outlet (slice_index_or nodes i d).part ≡ false
@@ -86,6 +86,9 @@ module _ (does : Doing) (pipes : List Pipe) (given : Feeding) where
       pub outlets : (i k : ℕ) (d : Node P K) → i < length nodes
           → takes_from (slice_index_or nodes i d).input k ≡ true
           → IsPrefix (past.fed i) (flow_by does pipes given (places k))
+      pub sums : (i : ℕ) (d : Node P K) → i < length nodes
+          → is_outlet (slice_index_or nodes i d).part ≡ false
+          → IsAtMost (slice_index_or nodes i d).out.tally (stopped (pipe_work does pipes given (places i)).tally)
       pub sinks : (i : ℕ) (d : Node P K) (sink : K) (failed : Bool) (pipe : Pipe) → i < length nodes
           → (slice_index_or nodes i d).part ≡ Sink sink failed
           → slice_get pipes (places i) ≡ Some pipe

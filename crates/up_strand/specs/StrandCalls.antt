@@ -7,12 +7,14 @@ use Rattle.up_base.specs.Lists.{IsPrefix}
 use Rattle.up_model.specs.Meaning.{Doing, input_by, bytes_by}
 use Rattle.up_model.specs.Packet.{Flow, IsLegal}
 use Rattle.up_model.specs.Plans.{sinks_of, strand_of}
+use Rattle.up_model.specs.Tallies.{IsAtMost}
 use Rattle.up_model.specs.declared.form.SourceForm.TheVariants.{Raw}
 use Rattle.up_model.specs.declared.kind.Kind.TheVariants as kinds
 use Rattle.up_model.specs.declared.outcome.Outcome.{Outcome}
 use Rattle.up_model.specs.declared.outcome.Outcome.TheVariants as outcomes
 use Rattle.up_model.specs.declared.pipe.Pipe.{Pipe}
 use Rattle.up_model.specs.declared.plain_packet.PlainPacket.{PlainPacket}
+use Rattle.up_model.specs.declared.tally.Tally.{Tally}
 use Rattle.up_outside.specs.Counts.{CountsWhere}
 use Rattle.up_outside.specs.States.{SourceState, SinkState}
 use Rattle.up_queue.specs.declared.end_kind.EndKind.{EndKind}
@@ -187,7 +189,9 @@ module _ {S K : Type 0} (reads : S → SourceState) (writes : K → SinkState) w
     pub outcomes : end.outcomes
         ≡ map (λ place. told_at_last done (told_at h place)) (strand_of h.pipes h.head)
     pub tallies : h.short ≡ false → end.tallies ≡ map (sums_at h) (strand_of h.pipes h.head)
-    -- where memory ran out they may be any sums
+    -- where memory ran out no sum is more than it would have been
+    pub most : (k place : ℕ) (d : Tally) → slice_get (strand_of h.pipes h.head) k ≡ Some place
+        → IsAtMost (slice_index_or end.tallies k d) (sums_at h place)
     pub count : length end.tallies ≡ length (strand_of h.pipes h.head)
     pub source : MatchOption end.parts.source (h.source ≡ None)
         (λ source. SourceEnds h (reads source))
