@@ -1,5 +1,5 @@
 -- What the calls of a strand do, for every history for which it stood.
-use Rattle.std.specs.Prelude.{◌≡◌, ◌≢◌, ℕ, ◌+◌, ◌<◌, ◌≤◌, ◌==◌, ◌++◌, List, [], ◌∷◌, length, map, slice_get, slice_index_or, Bool, true, false, Option, Some, None, MatchOption, option_map, option_and_then, if◌then◌else◌}
+use Rattle.std.specs.Prelude.{◌≡◌, ◌≢◌, ◌⊎◌, ℕ, ◌+◌, ◌<◌, ◌≤◌, ◌==◌, ◌++◌, List, [], ◌∷◌, length, map, slice_get, slice_index_or, Bool, true, false, Option, Some, None, MatchOption, option_map, option_and_then, if◌then◌else◌}
 use Rattle.std.specs.Io.KnownBytes.{Appends, IsAtEnd}
 use Rattle.std.specs.List.{position}
 use Rattle.std.specs.Option.{option_map_or, is_some}
@@ -205,6 +205,16 @@ module _ (h : History) (lane : ℕ) (pipe : Pipe) where
   -- what the head of the lane is to take
   abbrev pub flow_due : Doing → Flow
   flow_due does = input_by does h.pipes (to_head h.head (head_flow h)) lane pipe
+
+  -- something is due still: a packet, or the end
+  abbrev pub HasMoreDue : Type 0
+  HasMoreDue = (length (h.sent lane) < length (flow_due (doing h.ended)))
+      ⊎ ((is_some h.ended ≡ true) × (h.closed lane ≡ false))
+
+  -- all that can be taken out was, but for what is lacking where memory ran out
+  pub record HasNoneWaiting : Type 0 where
+    pub all : h.short ≡ false → h.sent lane ≡ flow_due (doing h.ended)
+    pub over : is_some h.ended ≡ true → h.closed lane ≡ true
 
   -- what was taken out comes first of that: all of it where nothing waits, and where the end was taken out
   pub record LaneStands (want : Want) : Type 0 where
