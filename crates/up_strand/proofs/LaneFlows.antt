@@ -200,10 +200,11 @@ module _ {P S K : Type 0} (plain : P → PlainPacket) (reads : S → SourceState
         λ does. sym (ap (λ fed. unwrap_or fed (taken_by h.pipes (flow_by does h.pipes given) pipe)) unfed
         ∙ ap (taken_from h.pipes (flow_by does h.pipes given) pipe.select) input
         ∙ ap (λ (o : Option Pipe). shared o pipe.select (flow_by does h.pipes given (place_of strand own.0))) before.there
-        ∙ whole_output before.pipe.kind pipe.select (flow_by does h.pipes given (place_of strand own.0))) in
-        (subst (IsPrefix (stands.past.fed at)) (due (doing h.ended))
-        ((begins plain reads writes strand h stands).reached.outlets at own.0 d within takes),
-        λ long. (comes plain reads writes strand h stands long).reached.outlets at own.0 d within takes ∙ due (doing h.ended))
+        ∙ whole_output before.pipe.kind pipe.select (flow_by does h.pipes given (place_of strand own.0))) in (
+          subst (IsPrefix (stands.past.fed at)) (due (doing h.ended))
+              ((begins plain reads writes strand h stands).reached.outlets at own.0 d within takes),
+          λ long. (comes plain reads writes strand h stands long).reached.outlets at own.0 d within takes ∙ due (doing h.ended),
+        )
 
     lane_stands_at : (pipe : Pipe) → slice_get h.pipes lane ≡ Some pipe → LaneStands h lane pipe (want_of strand)
     lane_stands_at pipe stood =

@@ -58,7 +58,8 @@ pub record IsDone {P K : Type 0} (node : Node P K) : Type 0 where
   pub ended : is_pipe node.part ≡ false
   pub whole : has_ended node.part ≡ is_whole node.part
 
--- memory ran out at it, and its module and what waits there are given up, but for what is left for another strand
+-- memory ran out at it, and its module and what waits there are given up, but for what is left for
+-- another strand
 pub record HasGivenUp {P K : Type 0} (old new : Node P K) : Type 0 where
   pub short : new.short ≡ true
   pub gone : is_pipe new.part ≡ false

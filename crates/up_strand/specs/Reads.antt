@@ -41,7 +41,8 @@ is_read_fault NoRoom = false
 is_read_fault NoMemory = false
 
 module _ {P : Type 0} (plain : P → PlainPacket) (block left : ℕ) where
-  -- what the bytes that were taken are, by the answer: a block, or fewer at the end; what doesn't become a packet is given up
+  -- what the bytes that were taken are, by the answer: a block, or fewer at the end; what doesn't
+  -- become a packet is given up
   abbrev pub AreReadAs : Option (List ℕ) → List ℕ → Next P → Type 0
   AreReadAs rest taken (Packet p) = (plain p ≡ bare taken) × (length taken ≡ block) × (block ≤ left)
   AreReadAs rest taken (Last p) =
@@ -53,7 +54,8 @@ module _ {P : Type 0} (plain : P → PlainPacket) (block left : ℕ) where
   AreReadAs rest taken NoRoom = taken ≡ []
   AreReadAs rest taken NoMemory = Unit {0}
 
-  -- a source that may give so many bytes more gave at most a block, and at most one byte more than that
+  -- a source that may give so many bytes more gave at most a block, and at most one byte more than
+  -- that
   pub record ReadsPacket (old new : SourceState) (next : Next P) : Type 0 where
     pub taken : List ℕ
     pub took : WereRead old new taken (length taken)

@@ -35,7 +35,8 @@ use Rattle.up_strand.specs.declared.want.Want.TheVariants.{Read, Input, Output, 
 abbrev pub no_sink : SinkState
 no_sink = record { written = None; place = None; moved = None; faults = 0 }
 
--- by the place of its pipe, what each of these sinks told, which are those of the strand of the head
+-- by the place of its pipe, what each of these sinks told, which are those of the strand of the
+-- head
 abbrev pub sinks_told : {K : Type 0} → (K → SinkState) → List Pipe → ℕ → List K → ℕ → SinkState
 sinks_told writes pipes head sinks place = option_map_or writes (option_and_then (slice_get sinks)
     (position (λ other. other == place) (sinks_of pipes head))) no_sink
@@ -216,7 +217,8 @@ module _ (h : History) (lane : ℕ) (pipe : Pipe) where
     pub all : h.short ≡ false → h.sent lane ≡ flow_due (doing h.ended)
     pub over : is_some h.ended ≡ true → h.closed lane ≡ true
 
-  -- what was taken out comes first of that: all of it where nothing waits, and where the end was taken out
+  -- what was taken out comes first of that: all of it where nothing waits, and where the end was
+  -- taken out
   pub record LaneStands (want : Want) : Type 0 where
     pub first : IsPrefix (h.sent lane) (flow_due (doing h.ended))
     pub all : h.short ≡ false → is_output want ≡ false

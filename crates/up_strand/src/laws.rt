@@ -22,9 +22,10 @@ ghost use Rattle.up_strand.specs.declared.want.Want.TheVariants as wants;
 use up_outside::{Sink, Source};
 use up_shape::LocalPacket;
 
-/// The head of a strand was fed the packets that it had; where memory ran out, the first of them. How a source ended is
-/// told by its bytes, and by whether a read failed; at most one byte past its limit was read, and none where a read failed.
-/// Where a source ended by a cause of its own, memory hadn't run out.
+/// The head of a strand was fed the packets that it had; where memory ran out, the first of them.
+/// How a source ended is told by its bytes, and by whether a read failed; at most one byte past its
+/// limit was read, and none where a read failed. Where a source ended by a cause of its own, memory
+/// hadn't run out.
 pub fn a_head_is_fed_what_it_has<P: LocalPacket, S: Source, K: Sink>()
     ensures first { (strand : TheStrand P S K) (h : History)
         → StandsFor P.plain S.state K.state strand h → IsPrefix h.fed (head_flow h) }
@@ -51,7 +52,8 @@ pub fn a_head_is_fed_what_it_has<P: LocalPacket, S: Source, K: Sink>()
         → h.ended ≡ Some outcome → is_cause outcome ≡ true → h.short ≡ false }
 {}
 
-/// What was taken out for a lane is what its head takes, where the head of this strand has the packets that it had.
+/// What was taken out for a lane is what its head takes, where the head of this strand has the
+/// packets that it had.
 pub fn lanes_are_given_the_flow<P: LocalPacket, S: Source, K: Sink>()
     ensures { (strand : TheStrand P S K) (h : History) (lane : ℕ) (pipe : ThePipe)
         → StandsFor P.plain S.state K.state strand h
@@ -59,9 +61,9 @@ pub fn lanes_are_given_the_flow<P: LocalPacket, S: Source, K: Sink>()
         → LaneStands h lane pipe (want_of strand) }
 {}
 
-/// A strand whose flow goes on asks for what its head is fed from; an item that waits is for a lane that it fills and whose
-/// end wasn't taken out: of those for which something is due, the one whose head is the first in the file; it is done only
-/// once its flow has ended.
+/// A strand whose flow goes on asks for what its head is fed from; an item that waits is for a lane
+/// that it fills and whose end wasn't taken out: of those for which something is due, the one whose
+/// head is the first in the file; it is done only once its flow has ended.
 pub fn a_strand_asks_by_what_it_did<P: LocalPacket, S: Source, K: Sink>()
     ensures read { (strand : TheStrand P S K) (h : History)
         → StandsFor P.plain S.state K.state strand h → want_of strand ≡ wants.Read

@@ -60,7 +60,8 @@ fn packet_of<P: LocalPacket>(room: P::Room, count: u32, s: &mut P::Store) -> Opt
     }
 }
 
-/// Reads up to a block of a source that may give `left` bytes more. The room for it is taken before the first read.
+/// Reads up to a block of a source that may give `left` bytes more. The room for it is taken before
+/// the first read.
 pub fn read_packet<P: LocalPacket, S: Source>(
     source: &mut S,
     block: u32,
