@@ -6,7 +6,9 @@ use Rattle.std.specs.Option.{is_some, option_map_or, option_to_list}
 use Rattle.std.proofs.lemmas.Bool.{cases_lt, lt-ltb, le-ltb}
 use Rattle.std.proofs.lemmas.Bool.Decides.{leb_tells}
 use Rattle.std.proofs.lemmas.List.FromFn.{length-range_with_len, get_or-range_with_len}
+use Rattle.std.proofs.lemmas.Option.{get_or_from_slice_get, slice_get_within}
 use Rattle.std.proofs.lemmas.List.Sums.{fails_before_first, passes_at_first, position_or_len_is, prefix_len-le-length}
+use Rattle.up_strand.specs.Nodes.{is_outlet}
 use Rattle.up_strand.specs.Strands.{first_ready, has_item, item_waits, kept_at, place_of, want_of, wants_in}
 use Rattle.up_strand.specs.declared.intake.Intake.{Intake}
 use Rattle.up_strand.specs.declared.intake.Intake.TheVariants.{FromSource, FromLane}
@@ -101,6 +103,19 @@ module _ {P S K : Type 0} where
       ap (λ (test : ℕ → Bool). position test (range_with_len 0 (length a.tree.nodes.items)))
       (fun_ext {f = has_item a} {g = has_item b} (items_wait_same a b none_a none_b tree ended closed))
       ∙ ap (λ (t : Tree P K). position (has_item b) (range_with_len 0 (length t.nodes.items))) (sym tree)
+
+  -- nothing waits for a lane at a node that is the end of none
+  pub none_inside : (strand : Strand P S K) (i : ℕ)
+      → ((d : Node P K) → i < length strand.tree.nodes.items → is_outlet (get_or strand.tree.nodes.items i d).part ≡ false) → has_item strand i ≡ false
+  none_inside strand i inner = by_item (slice_get strand.tree.nodes.items i) refl
+    where
+      by_item : (item : Option (Node P K)) → slice_get strand.tree.nodes.items i ≡ item → option_map_or (item_waits strand i) item false ≡ false
+      by_item None there = refl
+      by_item (Some node) there =
+          let part : is_outlet node.part ≡ false =
+          ap (λ (n : Node P K). is_outlet n.part) (sym (get_or_from_slice_get strand.tree.nodes.items i node node there))
+          ∙ inner node (slice_get_within strand.tree.nodes.items i node there) in
+          rw part refl
 
   -- what is wanted where an item waits, and where none does
   pub want_there : (strand : Strand P S K) → strand.ready ≡ first_of (has_item strand) (length strand.tree.nodes.items) → strand.ready < length strand.tree.nodes.items

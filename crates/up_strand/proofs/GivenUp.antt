@@ -12,6 +12,7 @@ use Rattle.up_model.specs.Inputs.{passes_at}
 use Rattle.up_model.specs.Meaning.{selected}
 use Rattle.up_model.specs.Packet.{Flow}
 use Rattle.up_model.specs.Plans.{ends_at_sink, outlets_of, sinks_of, strand_of}
+use Rattle.up_model.specs.Tallies.{IsAtMost, uncaught}
 use Rattle.up_model.specs.declared.form.SinkForm.TheVariants.{Raw}
 use Rattle.up_model.specs.declared.catch_set.CatchSet.{CatchSet}
 use Rattle.up_model.specs.declared.kind.Kind.{Kind}
@@ -19,9 +20,10 @@ use Rattle.up_model.specs.declared.kind.Kind.TheVariants as kinds
 use Rattle.up_model.specs.declared.outcome.Outcome.{Outcome}
 use Rattle.up_model.specs.declared.pipe.Pipe.{Pipe}
 use Rattle.up_model.specs.declared.plain_packet.PlainPacket.{PlainPacket}
+use Rattle.up_model.specs.declared.tally.Tally.{Tally}
 use Rattle.up_outside.specs.States.{SourceState, SinkState}
 use Rattle.up_shape.specs.Outgoing.{Outgoing}
-use Rattle.up_strand.proofs.Meanings.{is_pipe_node, place_of_pipe, sink_ends, sums_are}
+use Rattle.up_strand.proofs.Meanings.{is_pipe_node, place_of_pipe, sink_ends, sums_are, sums_most}
 use Rattle.up_strand.proofs.NodeSteps.{any_has_module}
 use Rattle.up_strand.proofs.Reaching.{same_kind}
 use Rattle.up_strand.proofs.Told.{outcome_is}
@@ -273,6 +275,16 @@ module _ {P S K : Type 0} (plain : P → PlainPacket) (reads : S → SourceState
         are.tallies i node catches_nothing d below
         ∙ sums_are plain reads writes strand h stands i node (get_or caught i catches_nothing) within long (slice_get-get_or caught i catches_nothing below)
         ∙ ap (sums_at h) (place_of_pipe plain reads writes strand h stands i within ∙ get_or_default own i 0 e within))
+
+    pub most_is : (k place : ℕ) (d : Tally) → slice_get own k ≡ Some place → IsAtMost (get_or told.tallies.items k d) (sums_at h place)
+    most_is k place d there =
+        let within = slice_get_within own k place there in
+        let node = an_item nodes k (is_within k within) in
+        let below = below_caught k within in
+        let is : place_of strand k ≡ place = place_of_pipe plain reads writes strand h stands k within ∙ get_or_from_slice_get own k place 0 there in
+        subst (λ (t : Tally). IsAtMost t (sums_at h place)) (sym (are.tallies k node catches_nothing d below))
+        (subst (λ (p : ℕ). IsAtMost (uncaught (get_or caught k catches_nothing) (get_or nodes k node).out.tally) (sums_at h p)) is
+        (sums_most plain reads writes strand h stands k node (get_or caught k catches_nothing) within (slice_get-get_or caught k catches_nothing below)))
 
     pub count_is : length told.tallies.items ≡ length own
     count_is = are.count_of ∙ stands.built.catches

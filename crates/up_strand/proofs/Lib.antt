@@ -1,3 +1,4 @@
+pub mod AtMost
 pub mod Begun
 pub mod Closed
 pub mod Cutting

@@ -151,12 +151,14 @@ module _ {P K : Type 0} (plain : P → PlainPacket) (state : K → SinkState) (p
   takers_begun : (place : ℕ) (takers : Option Takers) → AreTakersIn shape.inputs.items place takers → AreTakers place nodes takers
   takers_begun place None are = λ i d within. rw (each i d within).input (are i (omega (arith, count, is.inputs_of)))
   takers_begun place (Some takers) are =
-      let last : takers.last < length nodes = omega (arith, are.1, count, is.inputs_of) in
+      let last : takers.last < length nodes = omega (arith, are.within, count, is.inputs_of) in
+      let first : takers.first < length nodes = omega (arith, are.rising, last) in
       record {
-        rising = are.0;
+        rising = are.rising;
         within = last;
-        last = λ d. rw (each takers.last d last).input are.2;
-        all = λ i d within takes. are.3 i (omega (arith, count, is.inputs_of)) (rw (each i d within).input at takes);
+        first = λ d. rw (each takers.first d first).input are.first;
+        last = λ d. rw (each takers.last d last).input are.last;
+        all = λ i d within takes. are.all i (omega (arith, count, is.inputs_of)) (rw (each i d within).input at takes);
       }
 
   pub tree_begun : IsTree is.rank nodes

@@ -14,7 +14,7 @@ use Rattle.up_model.specs.Inputs.{PipeTest, reached, reached_within, places}
 use Rattle.up_model.specs.Meaning.{Doing, wholly, so_far, is_fed_by, flow_by, input_by, taken_by, bytes_by, pipe_work}
 use Rattle.up_model.specs.Packet.{Flow, joined}
 use Rattle.up_model.specs.Plans.{head_of, is_head, outlets_of, strand_of}
-use Rattle.up_model.specs.Tallies.{past_own_probe, stopped, uncaught}
+use Rattle.up_model.specs.Tallies.{IsAtMost, past_own_probe, stopped, uncaught}
 use Rattle.up_model.specs.declared.catch_set.CatchSet.{CatchSet}
 use Rattle.up_model.specs.declared.outcome.Outcome.{Outcome}
 use Rattle.up_model.specs.declared.outcome.Outcome.TheVariants.{Whole, ReadFault, WriteFault, TooLong, Broken, NoMemory}
@@ -23,6 +23,7 @@ use Rattle.up_model.specs.declared.plain_packet.PlainPacket.{PlainPacket}
 use Rattle.up_outside.specs.Counts.{CountsWhere}
 use Rattle.up_outside.specs.States.{SourceState, SinkState}
 use Rattle.up_plan.proofs.OneStrand.{in_strand}
+use Rattle.up_strand.proofs.AtMost.{uncaught_grows}
 use Rattle.up_strand.proofs.Reaching as reaching
 use Rattle.up_strand.proofs.Told.{failed_is}
 use Rattle.up_strand.specs.History.{History, doing, head_flow, sums_at, to_head}
@@ -145,7 +146,8 @@ module _ {P S K : Type 0} (plain : P → PlainPacket) (reads : S → SourceState
   whole_begins = record {
     reached = reaching.reached_in_part plain writes wholly h.pipes place given nodes stands.past stands.built.swept.rank stands.built.swept.tree stands.stand stands.built.are
         (λ i d within kind taken bounds first. reaching.whole_first (place i) _ kind (stands.past.fed i) taken bounds first)
-        (are_fed wholly IsPrefix stands.fed.first);
+        (are_fed wholly IsPrefix stands.fed.first)
+        (λ i d within kind taken bounds first. reaching.whole_sums_first (place i) _ kind (stands.past.fed i) taken bounds first);
     bytes = reaching.bytes_first plain writes wholly h.pipes place given nodes stands.past stands.built.swept.rank stands.built.swept.tree stands.stand stands.built.are
         (λ i d within kind taken bounds first. reaching.whole_first (place i) _ kind (stands.past.fed i) taken bounds first)
         (are_fed wholly IsPrefix stands.fed.first);
@@ -157,7 +159,8 @@ module _ {P S K : Type 0} (plain : P → PlainPacket) (reads : S → SourceState
       record {
         reached = reaching.reached_in_part plain writes so_far h.pipes place given nodes stands.past stands.built.swept.rank stands.built.swept.tree stands.stand stands.built.are
             (λ i d within kind taken bounds first. rw (owed i d within) (reaching.settled_first (place i) kind (stands.past.fed i) taken bounds first))
-            (are_fed so_far IsPrefix stands.fed.first);
+            (are_fed so_far IsPrefix stands.fed.first)
+            (λ i d within kind taken bounds first. rw (owed i d within) (reaching.settled_sums_first (place i) kind (stands.past.fed i) taken bounds first));
         bytes = reaching.bytes_first plain writes so_far h.pipes place given nodes stands.past stands.built.swept.rank stands.built.swept.tree stands.stand stands.built.are
             (λ i d within kind taken bounds first. rw (owed i d within) (reaching.settled_first (place i) kind (stands.past.fed i) taken bounds first))
             (are_fed so_far IsPrefix stands.fed.first);
@@ -233,6 +236,17 @@ module _ {P S K : Type 0} (plain : P → PlainPacket) (reads : S → SourceState
       let sums = stopped (pipe_work (doing h.ended) h.pipes given (place i)).tally in
       let same : caught ≡ own.pipe.caught = same_Some caught own.pipe.caught (sym there ∙ stands.built.caught i own.pipe within own.there) in
       ap (uncaught caught) ((comes long).reached.sums i d node.0 node.1) ∙ ap (λ c. uncaught c sums) same ∙ sym (ap (λ o. past_own_probe o sums) own.there)
+
+  -- whatever became of memory they are at most those
+  pub sums_most : (i : ℕ) (d : Node P K) (caught : CatchSet) → i < length (strand_of h.pipes h.head) → slice_get strand.caught.items i ≡ Some caught
+      → IsAtMost (uncaught caught (get_or strand.tree.nodes.items i d).out.tally) (sums_at h (place_of strand i))
+  sums_most i d caught within there =
+      let node = is_pipe_node i d within in
+      let own = stands.built.are.each i d node.0 node.1 in
+      let sums = stopped (pipe_work (doing h.ended) h.pipes given (place i)).tally in
+      let same : caught ≡ own.pipe.caught = same_Some caught own.pipe.caught (sym there ∙ stands.built.caught i own.pipe within own.there) in
+      let is : uncaught caught sums ≡ sums_at h (place_of strand i) = ap (λ c. uncaught c sums) same ∙ sym (ap (λ o. past_own_probe o sums) own.there) in
+      subst (IsAtMost (uncaught caught (get_or nodes i d).out.tally)) is (uncaught_grows caught (get_or nodes i d).out.tally sums (begins.reached.sums i d node.0 node.1))
 
   -- what a sink was given
   pub sink_ends : (i : ℕ) (d : Node P K) (sink : K) (failed : Bool) (pipe : Pipe) → i < length strand.tree.nodes.items

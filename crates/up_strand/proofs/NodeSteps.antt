@@ -10,7 +10,7 @@ use Rattle.up_model.specs.Chain.{IsRawSink}
 use Rattle.up_model.specs.Ends.{is_source}
 use Rattle.up_model.specs.Kinds.{IsWithinBounds, output_of, settled_output, work_of, settled_work}
 use Rattle.up_model.specs.Packet.{Flow, IsLegal, joined}
-use Rattle.up_model.specs.Tallies.{nothing, plus, added, stopped, of_source, of_taken}
+use Rattle.up_model.specs.Tallies.{IsAtMost, nothing, plus, added, stopped, of_source, of_taken}
 use Rattle.up_model.specs.Work.{Work}
 use Rattle.up_model.specs.declared.form.SinkForm.TheVariants.{Raw}
 use Rattle.up_model.specs.declared.kind.Kind.{Kind}
@@ -21,6 +21,7 @@ use Rattle.up_outside.specs.Counts.{CountsWhere}
 use Rattle.up_outside.specs.States.{SinkState}
 use Rattle.up_shape.specs.Growth.{Grew, GrewInPart}
 use Rattle.up_shape.specs.Outgoing.{Outgoing}
+use Rattle.up_strand.proofs.AtMost.{at_most_itself, at_most_on, at_most_same, stopped_grows}
 use Rattle.up_strand.proofs.Writes.{receives_front}
 use Rattle.up_strand.specs.AnyModule.{any_kind, AnyStands, has_module}
 use Rattle.up_strand.specs.Nodes.{Seat, Holds, PartStands, NodeStands, Took, node_work, is_whole}
@@ -73,6 +74,19 @@ sink_work whole (Some kind) fed is = absurd is
 pub outlet_work : (whole : Bool) (kind : Option Kind) (fed : Flow) → kind ≡ None → node_work whole kind fed ≡ record { flow = fed; tally = nothing }
 outlet_work whole kind fed is = rw is refl
 
+-- what a source counts grows
+pub source_sums_grow : (fed more : Flow) → IsAtMost (of_source fed) (of_source (fed ++ more))
+source_sums_grow fed more =
+    let longer = length-append fed more in
+    record {
+      taken = omega arith;
+      put = omega (arith, longer);
+      dropped = omega arith;
+      cut = omega arith;
+      gained = omega arith;
+      lost = omega arith;
+    }
+
 -- what a node puts out so far goes on with what it takes
 pub work_goes_on : (kind : Option Kind) (fed more : Flow) → IfSome kind IsWithinBounds
     → IsPrefix (node_work false kind fed).flow (node_work false kind (fed ++ more)).flow
@@ -88,6 +102,13 @@ work_comes_first (Some (kinds.Source path form limit)) fed within = ([], sym (ap
 work_comes_first (Some kind) fed within =
     subst (λ (f : Flow). IsPrefix (settled_output kind fed) (output_of kind f)) (append-nil fed) (((lawful kind).flows within).whole fed [])
 
+-- what it counted so far goes on too
+pub sums_go_on : (kind : Option Kind) (fed more : Flow) → IfSome kind IsWithinBounds
+    → IsAtMost (node_work false kind fed).tally (node_work false kind (fed ++ more)).tally
+sums_go_on None fed more within = at_most_itself nothing
+sums_go_on (Some (kinds.Source path form limit)) fed more within = source_sums_grow fed more
+sums_go_on (Some kind) fed more within = ((lawful kind).flows within).sums_longer fed more
+
 added_nothing : (tally : Tally) → tally ≡ added tally nothing
 added_nothing tally = grind arith
 
@@ -102,13 +123,16 @@ module _ {P : Type 0} (plain : P → PlainPacket) where
       let none = held.all refl in
       let all : before.flow ≡ gone ++ map plain old.packets =
       held.flow ∙ ap (λ l. gone ++ map plain old.packets ++ l) none ∙ append-nil (gone ++ map plain old.packets) in
+      let sums : new.tally ≡ stopped after.tally =
+      grew.tally ∙ ap (λ t. added t grew.growth) (held.tally refl) ∙ added-stopped before.tally grew.growth ∙ ap stopped (sym grew.sums) in
       record {
         lacking = [];
         flow =
             grew.flow ∙ ap (λ f. f ++ map plain grew.given) all ∙ append_assoc gone (map plain old.packets) (map plain grew.given)
             ∙ ap (λ f. gone ++ f) (sym (map-append plain old.packets grew.given) ∙ ap (map plain) (sym grew.packets)) ∙ sym (append-nil (gone ++ map plain new.packets));
         all = λ _. refl;
-        tally = λ _. grew.tally ∙ ap (λ t. added t grew.growth) (held.tally refl) ∙ added-stopped before.tally grew.growth ∙ ap stopped (sym grew.sums);
+        tally = λ _. sums;
+        most = at_most_same new.tally (stopped after.tally) sums;
       }
 
   -- or in part
@@ -118,6 +142,8 @@ module _ {P : Type 0} (plain : P → PlainPacket) where
       let none = held.all refl in
       let all : before.flow ≡ gone ++ map plain old.packets =
       held.flow ∙ ap (λ l. gone ++ map plain old.packets ++ l) none ∙ append-nil (gone ++ map plain old.packets) in
+      let sums : new.tally ≡ stopped (plus before.tally grew.growth) =
+      grew.tally ∙ ap (λ t. added t grew.growth) (held.tally refl) ∙ added-stopped before.tally grew.growth in
       record {
         lacking = grew.lacking;
         flow =
@@ -126,24 +152,28 @@ module _ {P : Type 0} (plain : P → PlainPacket) where
             ∙ ap (λ f. gone ++ f) (sym (map-append plain old.packets grew.given) ∙ ap (map plain) (sym grew.packets)));
         all = λ long. absurd (cc);
         tally = λ long. absurd (cc);
+        most = subst (λ (t : Tally). IsAtMost t (stopped after.tally)) (sym sums) (stopped_grows (plus before.tally grew.growth) after.tally grew.sums);
       }
 
   -- memory ran out, and the outbox is as it was
   pub holds_short : (short : Bool) (old new : Outgoing P) (before after : Work) (gone : Flow)
-      → Holds plain short before old gone → IsPrefix before.flow after.flow → new.packets ≡ old.packets → Holds plain true after new gone
-  holds_short short old new before after gone held longer same = record {
+      → Holds plain short before old gone → IsPrefix before.flow after.flow → IsAtMost before.tally after.tally → new.packets ≡ old.packets
+      → new.tally ≡ old.tally → Holds plain true after new gone
+  holds_short short old new before after gone held longer more same sums = record {
     lacking = held.lacking ++ longer.0;
     flow =
         longer.1 ∙ ap (λ f. f ++ longer.0) held.flow ∙ append_assoc (gone ++ map plain old.packets) held.lacking longer.0
         ∙ ap (λ ps. gone ++ map plain ps ++ (held.lacking ++ longer.0)) (sym same);
     all = λ long. absurd (cc);
     tally = λ long. absurd (cc);
+    most = subst (λ (t : Tally). IsAtMost t (stopped after.tally)) (sym sums)
+        (at_most_on old.tally (stopped before.tally) (stopped after.tally) held.most (stopped_grows before.tally after.tally more));
   }
 
   -- all that waited was given up
   pub holds_none : (old new : Outgoing P) (work : Work) (gone : Flow)
-      → Holds plain true work old gone → new.packets ≡ [] → Holds plain true work new gone
-  holds_none old new work gone held none = record {
+      → Holds plain true work old gone → new.packets ≡ [] → new.tally ≡ old.tally → Holds plain true work new gone
+  holds_none old new work gone held none sums = record {
     lacking = map plain old.packets ++ held.lacking;
     flow =
         held.flow ∙ append_assoc gone (map plain old.packets) held.lacking
@@ -151,7 +181,35 @@ module _ {P : Type 0} (plain : P → PlainPacket) where
         ∙ ap (λ ps. gone ++ map plain ps ++ (map plain old.packets ++ held.lacking)) (sym none);
     all = λ long. absurd (cc);
     tally = λ long. absurd (cc);
+    most = subst (λ (t : Tally). IsAtMost t (stopped work.tally)) (sym sums) held.most;
   }
+
+-- the work on nothing is nothing
+pub no_work : (whole : Bool) (kind : Option Kind) → IfSome kind IsWithinBounds → node_work whole kind [] ≡ record { flow = []; tally = nothing }
+no_work whole None within = refl
+no_work false (Some (kinds.Source path form limit)) within = refl
+no_work true (Some (kinds.Source path form limit)) within = refl
+no_work false (Some kind) within =
+    let keeps = (lawful kind).flows within in λ i. record { flow = keeps.settles_nothing i; tally = keeps.settles_no_sums i }
+no_work true (Some kind) within =
+    let keeps = (lawful kind).flows within in λ i. record { flow = keeps.owes_nothing i; tally = keeps.owes_no_sums i }
+
+stopped_nothing : nothing ≡ stopped nothing
+stopped_nothing = grind arith
+
+-- an outbox into which nothing was put holds the work on nothing
+pub holds_nothing : {P : Type 0} (plain : P → PlainPacket) (whole : Bool) (kind : Option Kind) (out : Outgoing P) → IfSome kind IsWithinBounds
+    → out.packets ≡ [] → out.tally ≡ nothing → Holds plain false (node_work whole kind []) out []
+holds_nothing plain whole kind out within packets tally =
+    let none = no_work whole kind within in
+    let sums : out.tally ≡ stopped (node_work whole kind []).tally = tally ∙ stopped_nothing ∙ ap (λ (w : Work). stopped w.tally) (sym none) in
+    record {
+      lacking = [];
+      flow = ap (λ (w : Work). w.flow) none ∙ ap (λ ps. map plain ps ++ []) (sym packets);
+      all = λ long. refl;
+      tally = λ long. sums;
+      most = at_most_same _ _ sums;
+    }
 
 -- the bytes of one packet more
 joined-push : (fed : Flow) (packet : PlainPacket) → joined (fed ++ packet ∷ []) ≡ joined fed ++ packet.bytes
@@ -170,12 +228,13 @@ module _ {P K : Type 0} (plain : P → PlainPacket) (state : K → SinkState) wh
 
   -- a node at which memory ran out gives up what it takes
   pub short_took : (old new : Node P K) (more : Flow) → new.short ≡ true → new.part ≡ old.part → new.out.packets ≡ old.out.packets
-      → is_whole old.part ≡ false → All IsLegal more → Took plain state old new more
-  short_took old new more short part packets goes_on legal seat fed gone stood = record {
+      → new.out.tally ≡ old.out.tally → is_whole old.part ≡ false → All IsLegal more → Took plain state old new more
+  short_took old new more short part packets sums goes_on legal seat fed gone stood = record {
     legal = All-append IsLegal fed more stood.legal legal;
     within = stood.within;
     part = rw (short, part) (part_goes_on seat old.short old.part fed more stood.part);
-    holds = rw (short, part, goes_on) (holds_short plain old.short old.out new.out _ _ gone (rw goes_on at stood.holds) (work_goes_on seat.kind fed more stood.within) packets);
+    holds = rw (short, part, goes_on) (holds_short plain old.short old.out new.out _ _ gone (rw goes_on at stood.holds) (work_goes_on seat.kind fed more stood.within)
+        (sums_go_on seat.kind fed more stood.within) packets sums);
   }
 
   -- memory runs out at a node
@@ -184,17 +243,32 @@ module _ {P K : Type 0} (plain : P → PlainPacket) (state : K → SinkState) wh
     legal = rw (append-nil fed) stood.legal;
     within = stood.within;
     part = part_goes_on seat old.short old.part fed [] stood.part;
-    holds = rw (append-nil fed) (holds_short plain old.short old.out old.out _ _ gone stood.holds ([], sym (append-nil _)) refl);
+    holds = rw (append-nil fed) (holds_short plain old.short old.out old.out _ _ gone stood.holds ([], sym (append-nil _)) (at_most_itself _) refl refl);
   }
 
   -- what waited at it is given up
-  pub emptied : (old : Node P K) (out : Outgoing P) → old.short ≡ true → out.packets ≡ [] → Took plain state old (record old { out = out }) []
-  emptied old out short none seat fed gone stood = record {
+  pub emptied : (old : Node P K) (out : Outgoing P) → old.short ≡ true → out.packets ≡ [] → out.tally ≡ old.out.tally
+      → Took plain state old (record old { out = out }) []
+  emptied old out short none sums seat fed gone stood = record {
     legal = rw (append-nil fed) stood.legal;
     within = stood.within;
     part = rw (append-nil fed) stood.part;
-    holds = rw (append-nil fed, short) (holds_none plain old.out out _ gone (rw short at stood.holds) none);
+    holds = rw (append-nil fed, short) (holds_none plain old.out out _ gone (rw short at stood.holds) none sums);
   }
+
+  -- memory ran out as the flow of a pipe came to its whole end
+  pub pipe_ends_short : (old : Node P K) (part' : Part K) (m : AnyModule) (out : Outgoing P) → old.short ≡ false → old.part ≡ Pipe m → part' ≡ Ended true
+      → ((fed : Flow) → AnyStands m fed → GrewInPart plain old.out out (settled_work (any_kind m) fed) (work_of (any_kind m) fed))
+      → Took plain state old (record { input = old.input; takers = old.takers; part = part'; out = out; short = true }) []
+  pipe_ends_short old part' m out long is is' grew seat fed gone stood =
+      let part = rw (is, long) at stood.part in
+      let holds = rw (is, long, part.0, settled_by m fed) at stood.holds in
+      record {
+        legal = rw (append-nil fed) stood.legal;
+        within = stood.within;
+        part = rw (is', part.0) (any_has_module m);
+        holds = rw (append-nil fed, is', part.0, work_by m fed) (holds_in_part plain old.out out _ _ gone holds (grew fed (part.1 refl)));
+      }
 
   -- one step and then another, in which nothing is taken
   pub Took-then : (a b c : Node P K) (more : Flow) → Took plain state a b more → Took plain state b c [] → Took plain state a c more
@@ -246,6 +320,9 @@ module _ {P K : Type 0} (plain : P → PlainPacket) (state : K → SinkState) wh
     sink_took sink sink' failed failed' is is' receives faults packets tally seat fed gone stood =
         let part = rw (is, long) at stood.part in
         let holds = rw (is, long, sink_work false seat.kind fed part.0) at stood.holds in
+        let sums : new.out.tally ≡ stopped (of_taken (fed ++ packet ∷ [])) =
+        tally ∙ ap (λ t. added t one) (holds.tally refl) ∙ added-stopped (of_taken fed) one
+        ∙ ap stopped (λ i. record { taken = sym (length-append fed (packet ∷ [])) i; put = 0; dropped = 0; cut = 0; gained = 0; lost = 0 }) in
         record {
           legal = legal_more fed stood.legal;
           within = stood.within;
@@ -254,9 +331,8 @@ module _ {P K : Type 0} (plain : P → PlainPacket) (state : K → SinkState) wh
             lacking = holds.lacking;
             flow = holds.flow ∙ ap (λ ps. gone ++ map plain ps ++ holds.lacking) (sym packets);
             all = λ _. holds.all refl;
-            tally = λ _.
-                tally ∙ ap (λ t. added t one) (holds.tally refl) ∙ added-stopped (of_taken fed) one
-                ∙ ap stopped (λ i. record { taken = sym (length-append fed (packet ∷ [])) i; put = 0; dropped = 0; cut = 0; gained = 0; lost = 0 });
+            tally = λ _. sums;
+            most = at_most_same _ _ sums;
           });
         }
       where

@@ -11,12 +11,14 @@ use Rattle.up_model.specs.Kinds.{IsWithinBounds}
 use Rattle.up_model.specs.Packet.{Flow, IsLegal}
 use Rattle.up_model.specs.declared.kind.Kind.{Kind}
 use Rattle.up_model.specs.declared.kind.Kind.TheVariants as kinds
+use Rattle.up_model.specs.Tallies.{IsAtMost, stopped}
 use Rattle.up_model.specs.declared.plain_packet.PlainPacket.{PlainPacket}
+use Rattle.up_model.specs.declared.tally.Tally.{Tally}
 use Rattle.up_outside.specs.States.{SinkState}
 use Rattle.up_shape.specs.Outgoing.{Outgoing}
 use Rattle.up_strand.proofs.Gives.{share_none, share_all, placed_itself, placed_on}
 use Rattle.up_strand.specs.Gifts.{Given, Gave, AreReady, share}
-use Rattle.up_strand.specs.Nodes.{IsAsPlaced, NodeStands, Seat, node_work, is_outlet, takes_from}
+use Rattle.up_strand.specs.Nodes.{IsAsPlaced, NodeStands, Seat, node_work, is_outlet, is_whole, takes_from}
 use Rattle.up_strand.specs.Stand.{Past, Stand, StandWith, Passes, AreAsPlaced}
 use Rattle.up_strand.specs.Tree.{AreTakers, HasTree}
 use Rattle.up_strand.specs.Waiting.{waiting_at}
@@ -122,6 +124,7 @@ module _ {P K : Type 0} (plain : P → PlainPacket) (state : K → SinkState) wh
           ∙ ap (λ f. f ++ stood.holds.lacking) (sym (append_assoc gone (plain p ∷ []) (map plain out.packets)));
       all = stood.holds.all;
       tally = λ long. tally ∙ stood.holds.tally long;
+      most = subst (λ (t : Tally). IsAtMost t (stopped (node_work (is_whole old.part) seat.kind fed).tally)) (sym tally) stood.holds.most;
     };
   }
 
@@ -333,6 +336,7 @@ takers_same place olds news (Some takers) same placed between =
     record {
       rising = between.rising;
       within = omega (arith, inside);
+      first = λ d. rw (placed takers.first d (omega (arith, inside, between.rising))).input (between.first d);
       last = λ d. rw (placed takers.last d inside).input (between.last d);
       all = λ i d within takes. between.all i d (omega arith) (rw (← (placed i d (omega arith)).input) takes);
     }

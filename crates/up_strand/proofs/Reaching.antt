@@ -9,18 +9,20 @@ use Rattle.up_model.proofs.EveryKind.{lawful}
 use Rattle.up_model.proofs.GraphFlows.{written_grows, so_far-wholly}
 use Rattle.up_model.proofs.Ways.{flow_by-unrolled}
 use Rattle.up_model.specs.Chain.{IsRawSink}
-use Rattle.up_model.specs.Kinds.{IsWithinBounds, output_of, settled_output, module_kind, share_of, written_of}
+use Rattle.up_model.specs.Kinds.{IsWithinBounds, output_of, settled_output, settled_work, work_of, module_kind, share_of, written_of}
 use Rattle.up_model.specs.Meaning.{Doing, Feeding, wholly, so_far, selected, done_by, shared, taken_from, taken_by, work_at, flow_by, pipe_work, input_by, bytes_by}
 use Rattle.up_model.specs.Packet.{Flow, joined}
-use Rattle.up_model.specs.Tallies.{stopped}
+use Rattle.up_model.specs.Tallies.{IsAtMost, of_source, stopped}
 use Rattle.up_model.specs.Work.{Work}
 use Rattle.up_model.specs.declared.form.SinkForm.TheVariants.{Raw}
 use Rattle.up_model.specs.declared.kind.Kind.{Kind}
 use Rattle.up_model.specs.declared.kind.Kind.TheVariants as kinds
 use Rattle.up_model.specs.declared.pipe.Pipe.{Pipe}
 use Rattle.up_model.specs.declared.plain_packet.PlainPacket.{PlainPacket}
+use Rattle.up_model.specs.declared.tally.Tally.{Tally}
 use Rattle.up_outside.specs.States.{SinkState}
-use Rattle.up_strand.proofs.NodeSteps.{head_work, sink_work}
+use Rattle.up_strand.proofs.AtMost.{at_most_on, stopped_grows}
+use Rattle.up_strand.proofs.NodeSteps.{head_work, sink_work, source_sums_grow}
 use Rattle.up_strand.specs.Nodes.{Seat, PartStands, node_work, is_outlet, is_whole, has_ended, is_pipe, takes_from}
 use Rattle.up_strand.specs.OfGraph.{IsInputOf, AreNodesOf, AreFed, AreFedInPart, IsReached, IsReachedInPart}
 use Rattle.up_strand.specs.Stand.{Past, Stand, AreSettled}
@@ -90,6 +92,39 @@ whole_first place true (kinds.Source path form limit) fed taken within first = f
 whole_first place false kind fed taken within first = so_far-wholly place kind fed taken within first
 whole_first place true kind fed taken within first =
     subst (λ (f : Flow). IsPrefix f (output_of kind taken)) (sym (holds_nothing_back kind fed)) (so_far-wholly place kind fed taken within first)
+
+-- no kind counts more at the end of its flow
+counts_nothing_more : (kind : Kind) (taken : Flow) → (work_of kind taken).tally ≡ (settled_work kind taken).tally
+counts_nothing_more (kinds.Source path form limit) taken = refl
+counts_nothing_more (kinds.Sink path form) taken = refl
+counts_nothing_more kinds.Idem taken = refl
+counts_nothing_more kinds.Null taken = refl
+counts_nothing_more kinds.Dup taken = refl
+counts_nothing_more (kinds.Skip bytes) taken = refl
+counts_nothing_more (kinds.DelAttr attr) taken = refl
+
+source_sums_first : (fed taken : Flow) → IsPrefix fed taken → IsAtMost (of_source fed) (of_source taken)
+source_sums_first fed taken first = subst (λ (f : Flow). IsAtMost (of_source fed) (of_source f)) (sym first.1) (source_sums_grow fed first.0)
+
+-- what a node counted of the first packets that its pipe takes is at most what is counted of all
+pub settled_sums_first : (place : ℕ) (kind : Kind) (fed taken : Flow) → IsWithinBounds kind → IsPrefix fed taken
+    → IsAtMost (node_work false (Some kind) fed).tally (done_by so_far place kind taken).tally
+settled_sums_first place (kinds.Source path form limit) fed taken within first = source_sums_first fed taken first
+settled_sums_first place kind fed taken within first =
+    subst (λ (f : Flow). IsAtMost (settled_work kind fed).tally (settled_work kind f).tally) (sym first.1) (((lawful kind).flows within).sums_longer fed first.0)
+
+sums_so_far_wholly : (kind : Kind) (fed taken : Flow) → IsWithinBounds kind → IsPrefix fed taken
+    → IsAtMost (settled_work kind fed).tally (work_of kind taken).tally
+sums_so_far_wholly kind fed taken within first =
+    subst (λ (f : Flow). IsAtMost (settled_work kind fed).tally (work_of kind f).tally) (sym first.1) (((lawful kind).flows within).sums_whole fed first.0)
+
+pub whole_sums_first : (place : ℕ) (whole : Bool) (kind : Kind) (fed taken : Flow) → IsWithinBounds kind → IsPrefix fed taken
+    → IsAtMost (node_work whole (Some kind) fed).tally (done_by wholly place kind taken).tally
+whole_sums_first place false (kinds.Source path form limit) fed taken within first = source_sums_first fed taken first
+whole_sums_first place true (kinds.Source path form limit) fed taken within first = source_sums_first fed taken first
+whole_sums_first place false kind fed taken within first = sums_so_far_wholly kind fed taken within first
+whole_sums_first place true kind fed taken within first =
+    subst (λ (t : Tally). IsAtMost t (work_of kind taken).tally) (sym (counts_nothing_more kind fed)) (sums_so_far_wholly kind fed taken within first)
 
 -- a sink and a source do the same wholly and so far, and an outlet is no pipe
 module _ {P K : Type 0} (plain : P → PlainPacket) (state : K → SinkState) where
@@ -267,14 +302,36 @@ module _ {P K : Type 0} (plain : P → PlainPacket) (state : K → SinkState) wh
         (subst (λ (l : List ℕ). IsPrefix l bytes) (sym (raw_bytes (past.seats i).kind node.pipe.kind (past.fed i) kind raw))
         (written_grows node.pipe.kind _ _ (rw kind at (stand.node i d within).within) fed))
 
-    pub reached_in_part : IsReachedInPart does pipes given state places nodes past
-    reached_in_part =
+    -- what a node counted of a first part of what its pipe takes is at most what the pipe counts
+    abbrev CountsLess : Type 0
+    CountsLess = (i : ℕ) (d : Node P K) → i < length nodes → (kind : Kind) (taken : Flow) → IsWithinBounds kind → IsPrefix (past.fed i) taken
+        → IsAtMost (node_work (is_whole (get_or nodes i d).part) (Some kind) (past.fed i)).tally (done_by does (places i) kind taken).tally
+
+    -- no node counted more than its pipe
+    counted_first : CountsLess → (i : ℕ) (d : Node P K) → i < length nodes → is_outlet (get_or nodes i d).part ≡ false
+        → IsAtMost (get_or nodes i d).out.tally (stopped (pipe_work does pipes given (places i)).tally)
+    counted_first counts i d within inner =
+        let node = of.each i d within inner in
+        let stood = stand.node i d within in
+        let taken = input_by does pipes given (places i) node.pipe in
+        let work = node_work (is_whole (get_or nodes i d).part) (Some node.pipe.kind) (past.fed i) in
+        let kind : (past.seats i).kind ≡ Some node.pipe.kind = node.kind ∙ ap Some (same_kind (selected pipes (places i)) node.pipe.kind) in
+        let fed = fed_first i d (get_or nodes i d).input node.pipe within refl inner node.input_of node.there (λ k inside less other. gone_first (rank k + 1) k d (omega arith) inside other) in
+        let of_kind : IsAtMost (get_or nodes i d).out.tally (stopped work.tally) = rw kind at stood.holds.most in
+        let is : (done_by does (places i) node.pipe.kind taken).tally ≡ (pipe_work does pipes given (places i)).tally =
+        ap (λ k. (done_by does (places i) k taken).tally) (sym (same_kind (selected pipes (places i)) node.pipe.kind))
+        ∙ ap (λ (o : Option Pipe). (work_at does pipes given flows_of (places i) o).tally) (sym node.there) in
+        at_most_on _ _ _ of_kind (stopped_grows _ _ (subst (IsAtMost work.tally) is (counts i d within node.pipe.kind taken (rw kind at stood.within) fed)))
+
+    pub reached_in_part : CountsLess → IsReachedInPart does pipes given state places nodes past
+    reached_in_part counts =
         let gone : (d : Node P K) (k : ℕ) → k < length nodes → is_outlet (get_or nodes k d).part ≡ false → IsPrefix (past.gone k) (flows_of (places k)) =
         λ d k within inner. gone_first (rank k + 1) k d (omega arith) within inner in
         record {
           put = λ i d within inner. gone d i within inner;
           outlets = λ i k d within takes.
               subst (λ (f : Flow). IsPrefix f (flows_of (places k))) (sym (stand.edge i d k within takes)) (gone d k (tree.inputs i d k within takes).0 (of.inner i k d within takes));
+          sums = counted_first counts;
           sinks = λ i d sink failed pipe within is there.
               let inner : is_outlet (get_or nodes i d).part ≡ false = rw is refl in
               let part = rw is at (stand.node i d within).part in

@@ -118,7 +118,8 @@ module _ {P S K : Type 0} (plain : P → PlainPacket) (reads : S → SourceState
         (same : now ≡ record old { tree = now.tree; intake = FromSource source_now block limit left_now; ended = ended })
         (took : TreeTook plain writes old.tree now.tree fed) (is : TreeIs now.tree ended) (before after : StoreState F)
         (fault : is_fault_of next ≡ ended_at_fault ended) (one : length fed ≤ 1)
-        (room : ended ≢ Some outcomes.NoMemory → before.drawn < after.drawn) (drawn : before.drawn + length fed ≤ after.drawn) where
+        (room : ended ≢ Some outcomes.NoMemory → before.drawn < after.drawn)
+        (into : 0 < length read.taken → before.drawn < after.drawn) (drawn : before.drawn + length fed ≤ after.drawn) where
       abbrev stepped : ℕ → Strand P S K
       stepped ready = record old { tree = now.tree; intake = FromSource source_now block limit left_now; ended = ended; last = None; ready = ready }
 
@@ -170,6 +171,7 @@ module _ {P S K : Type 0} (plain : P → PlainPacket) (reads : S → SourceState
           one = one;
           block = in_block;
           room = room;
+          into = into;
           drawn = drawn;
         }
 
@@ -193,7 +195,7 @@ module _ {P S K : Type 0} (plain : P → PlainPacket) (reads : S → SourceState
       block_taken p wide width read drew same took is =
           let more = stays.more in
           read_taken source_now (left - wide) (nexts.Packet p) read now (ended_where now.tree.short) (plain p ∷ []) same took is before after
-          (sym (ended_no_fault now.tree.short)) (omega arith) (λ other. omega (arith, drew, more)) (omega (arith, drew, more))
+          (sym (ended_no_fault now.tree.short)) (omega arith) (λ other. omega (arith, drew, more)) (λ some. omega (arith, drew, more)) (omega (arith, drew, more))
           (λ h stood.
           let reading = was_reading h stood in
           let going = was_going h stood in
@@ -226,7 +228,7 @@ module _ {P S K : Type 0} (plain : P → PlainPacket) (reads : S → SourceState
       last_taken p read drew same took is =
           let more = stays.more in
           read_taken source_now left (nexts.Last p) read now (Some outcomes.Whole) (plain p ∷ []) same took is before after
-          refl (omega arith) (λ other. omega (arith, drew, more)) (omega (arith, drew, more))
+          refl (omega arith) (λ other. omega (arith, drew, more)) (λ some. omega (arith, drew, more)) (omega (arith, drew, more))
           (λ h stood.
           let reading = was_reading h stood in
           let going = was_going h stood in
@@ -257,7 +259,7 @@ module _ {P S K : Type 0} (plain : P → PlainPacket) (reads : S → SourceState
       end_taken read drew same took is =
           let more = stays.more in
           read_taken source_now left nexts.End read now (Some outcomes.Whole) [] same took is before after
-          refl (omega arith) (λ other. omega (arith, drew, more)) (omega (arith, drew, more))
+          refl (omega arith) (λ other. omega (arith, drew, more)) (λ some. omega (arith, drew, more)) (omega (arith, drew, more))
           (λ h stood.
           let reading = was_reading h stood in
           let going = was_going h stood in
@@ -282,7 +284,7 @@ module _ {P S K : Type 0} (plain : P → PlainPacket) (reads : S → SourceState
       fault_taken read drew same took is short =
           let more = stays.more in
           read_taken source_now left nexts.Fault read now (Some outcomes.ReadFault) [] same took is before after
-          refl (omega arith) (λ other. omega (arith, drew, more)) (omega (arith, drew, more))
+          refl (omega arith) (λ other. omega (arith, drew, more)) (λ some. omega (arith, drew, more)) (omega (arith, drew, more))
           (λ h stood.
           let reading = was_reading h stood in
           let going = was_going h stood in
@@ -307,7 +309,7 @@ module _ {P S K : Type 0} (plain : P → PlainPacket) (reads : S → SourceState
       long_taken read drew same took is short =
           let more = stays.more in
           read_taken source_now left nexts.TooLong read now (Some (outcomes.TooLong limit)) [] same took is before after
-          refl (omega arith) (λ other. omega (arith, drew, more)) (omega (arith, drew, more))
+          refl (omega arith) (λ other. omega (arith, drew, more)) (λ some. omega (arith, drew, more)) (omega (arith, drew, more))
           (λ h stood.
           let reading = was_reading h stood in
           let going = was_going h stood in
@@ -325,15 +327,15 @@ module _ {P S K : Type 0} (plain : P → PlainPacket) (reads : S → SourceState
             all = λ is_long. sym flow;
           })
 
-      -- and no memory
-      pub none_taken : ReadsPacket plain block left (reads source) (reads source_now) nexts.NoMemory → Stays before middle
+      -- and no memory, for a room or for a packet of what was read into it
+      pub none_taken : (next : Next P) (read : ReadsPacket plain block left (reads source) (reads source_now) next) → is_fault_of next ≡ false
+          → before.drawn ≤ middle.drawn → (0 < length read.taken → before.drawn < middle.drawn)
           → now ≡ record old { tree = now.tree; intake = FromSource source_now block limit left; ended = Some outcomes.NoMemory }
           → TreeTook plain writes old.tree now.tree [] → TreeIs now.tree (Some outcomes.NoMemory) → now.tree.short ≡ true → Steps
-      none_taken read first same took is short =
-          let drew = first.more in
+      none_taken next read fault drew into same took is short =
           let more = stays.more in
-          read_taken source_now left nexts.NoMemory read now (Some outcomes.NoMemory) [] same took is before after
-          refl (omega arith) (λ other. absurd (other refl)) (omega (arith, drew, more))
+          read_taken source_now left next read now (Some outcomes.NoMemory) [] same took is before after
+          fault (omega arith) (λ other. absurd (other refl)) (λ some. omega (arith, into some, more)) (omega (arith, drew, more))
           (λ h stood.
           let reading = was_reading h stood in
           let going = was_going h stood in
@@ -347,6 +349,7 @@ module _ {P S K : Type 0} (plain : P → PlainPacket) (reads : S → SourceState
             even = λ wrong. absurd (cc);
             moves = λ wrong. absurd (cc);
             first = subst (λ (f : Flow). IsPrefix f (full_blocks block (h.read ++ read.taken))) (sym front)
-                (go_on h (reads source) (reads source_now) block limit left reading going read.taken read.took [] None false (λ place. false) read.faults);
+                (go_on h (reads source) (reads source_now) block limit left reading going read.taken read.took [] None false (λ place. false)
+                (subst (λ (b : Bool). CountsWhere b (reads source).faults (reads source_now).faults) fault read.faults));
             all = λ is_long. let wrong : true ≡ false = sym short ∙ is_long in absurd (cc);
           })

@@ -8,7 +8,9 @@ use Rattle.std.proofs.lemmas.Option.{same_Some, slice_get-get_or, slice_get_case
 use Rattle.std.proofs.Math.Seq.{get_or-append_seam}
 use Rattle.up_model.specs.Packet.{Flow, IsLegal}
 use Rattle.up_model.specs.Plans.{strand_of}
+use Rattle.up_model.specs.Tallies.{IsAtMost, stopped}
 use Rattle.up_model.specs.declared.plain_packet.PlainPacket.{PlainPacket}
+use Rattle.up_model.specs.declared.tally.Tally.{Tally}
 use Rattle.up_outside.specs.States.{SourceState, SinkState}
 use Rattle.up_queue.specs.declared.end_kind.EndKind.{EndKind}
 use Rattle.up_queue.specs.declared.item.Item.{Item}
@@ -20,7 +22,7 @@ use Rattle.up_strand.proofs.Passing.{with_flow, with_flow-same, with_flow-other}
 use Rattle.up_strand.proofs.Returning.{alike_itself, has_same, if_here, if_other, true_false, waits_with}
 use Rattle.up_strand.specs.History.{History, end_by}
 use Rattle.up_strand.specs.Gifts.{NodesFit}
-use Rattle.up_strand.specs.Nodes.{NodeFits, NodeStands, PartStands, Seat, is_outlet, is_whole, takes_from}
+use Rattle.up_strand.specs.Nodes.{NodeFits, NodeStands, PartStands, Seat, is_outlet, is_whole, node_work, takes_from}
 use Rattle.up_strand.specs.Stand.{Stand}
 use Rattle.up_strand.specs.StrandCalls.{IsLegalItem, ItemFits, WentOut, gave_out}
 use Rattle.up_strand.specs.Strands.{IsSent, StandsFor, StrandFits, has_item, kept_at, place_of}
@@ -74,6 +76,7 @@ module _ {P K : Type 0} (plain : P → PlainPacket) (state : K → SinkState) wh
               ∙ ap (λ (f : Flow). f ++ stood.holds.lacking) (sym (append_assoc gone (plain packet ∷ []) (map plain new.out.packets)));
           all = stood.holds.all;
           tally = λ long. left.tally ∙ stood.holds.tally long;
+          most = subst (λ (t : Tally). IsAtMost t (stopped (node_work (is_whole old.part) seat.kind fed).tally)) (sym left.tally) stood.holds.most;
         };
       })
 

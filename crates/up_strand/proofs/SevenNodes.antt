@@ -80,7 +80,7 @@ order_next d (suc (suc (suc (suc (suc (suc zero)))))) within = absurd (omega ari
 order_next d (suc (suc (suc (suc (suc (suc (suc k))))))) within = absurd (omega arith)
 
 pub is_order : IsOrder rank 7 order
-is_order = record { within = order_within; all = order_all; rising = λ k l d upto within. rises (λ m. rank (get_or order m d)) 7 (order_next d) k l upto within }
+is_order = record { once = refl; within = order_within; all = order_all; rising = λ k l d upto within. rises (λ m. rank (get_or order m d)) 7 (order_next d) k l upto within }
 
 path_is_utf8 : is_utf8 (111 ∷ []) ≡ true
 unfolding chars is_utf8 lib.Utf8.encode
@@ -138,6 +138,7 @@ module _ {P K : Type 0} (a b c d e f g : Node P K)
         (subst (AreTakers 1 nodes) (sym b-to) (record {
           rising = omega arith;
           within = omega arith;
+          first = λ x. rw d-in refl;
           last = λ x. rw d-in refl;
           all = each (λ i n. takes_from n.input 1 ≡ true → (3 ≤ i) × (i ≤ 3))
               (λ takes. absurd (let wrong : true ≡ false = sym takes ∙ (rw a-in refl) in cc))
@@ -152,6 +153,7 @@ module _ {P K : Type 0} (a b c d e f g : Node P K)
         (subst (AreTakers 3 nodes) (sym d-to) (record {
           rising = omega arith;
           within = omega arith;
+          first = λ x. rw c-in refl;
           last = λ x. rw g-in refl;
           all = each (λ i n. takes_from n.input 3 ≡ true → (2 ≤ i) × (i ≤ 6))
               (λ takes. absurd (let wrong : true ≡ false = sym takes ∙ (rw a-in refl) in cc))
@@ -165,6 +167,7 @@ module _ {P K : Type 0} (a b c d e f g : Node P K)
         (subst (AreTakers 4 nodes) (sym e-to) (record {
           rising = omega arith;
           within = omega arith;
+          first = λ x. rw a-in refl;
           last = λ x. rw a-in refl;
           all = each (λ i n. takes_from n.input 4 ≡ true → (0 ≤ i) × (i ≤ 0))
               (λ takes. (omega arith, omega arith))

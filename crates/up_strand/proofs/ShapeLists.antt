@@ -4,7 +4,7 @@ use Rattle.std.specs.List.{Contains, filter, range_with_len}
 use Rattle.std.specs.List.Sorted.{IsPermutation, IsNonDecreasingBy}
 use Rattle.std.proofs.lemmas.List.Elements.{Contains-get_or, filter-append}
 use Rattle.std.proofs.lemmas.List.FromFn.{length-range_with_len, get_or-range_with_len}
-use Rattle.std.proofs.lemmas.List.Sorted.{Contains-permutation, IsPermutation-sym}
+use Rattle.std.proofs.lemmas.List.Sorted.{Contains-permutation, IsPermutation-sym, length_permutation}
 use Rattle.std.proofs.lemmas.List.{take_more, map-append, get_or-map, get_or_default, length-append, length-map}
 use Rattle.std.proofs.lemmas.Option.{get_or_from_slice_get, same_Some, slice_get_within}
 use Rattle.up_model.specs.Plans.{heads, strand_of}
@@ -47,6 +47,7 @@ strand_found pipes strands i head strand planned there is =
 pub sorted_order : (rank : ℕ → ℕ) (count : ℕ) (order : List ℕ) → IsPermutation (range_with_len 0 count) order → IsNonDecreasingBy rank order
     → IsOrder rank count order
 sorted_order rank count order moved rises = record {
+  once = length_permutation (range_with_len 0 count) order moved ∙ length-range_with_len 0 count;
   within = λ k d inside.
       let there = Contains-permutation order (range_with_len 0 count) (get_or order k d) (IsPermutation-sym (range_with_len 0 count) order moved)
       (Contains-get_or order k d inside) in

@@ -56,6 +56,18 @@ found_place own place k d found =
     let at = position-Some (λ other. other == place) own k d found in (at.0, (Decides-eqb (get_or own k d) place).0 at.1)
 
 module _ (pipes : List Pipe) where
+  -- places in file order
+  rising_places : AllPairs (λ x y. x < y) (places pipes)
+  rising_places i j d before within =
+      let count = length-range_with_len 0 (length pipes) in
+      omega (arith, before, get_or-range_with_len 0 (length pipes) i d (omega (arith, before, within, count)), get_or-range_with_len 0 (length pipes) j d (omega (arith, within, count)))
+
+  pub rising_outlets : (head : ℕ) → AllPairs (λ x y. x < y) (outlets_of pipes head)
+  rising_outlets head =
+      AllPairs-filter (λ x y. x < y) (passes_at (takes_of head) pipes) (lanes pipes)
+      (AllPairs-filter (λ x y. x < y) (passes_at is_fed pipes) (heads pipes)
+      (AllPairs-filter (λ x y. x < y) (passes_at is_head pipes) (places pipes) rising_places))
+
   module _ (well : IsWellFormed pipes) where
     -- a source takes from none
     source_takes_none : (place input : ℕ) (pipe : Pipe) → slice_get pipes place ≡ Some pipe → is_source pipe.kind ≡ true → pipe.input ≡ Some input → ⊥
@@ -183,12 +195,6 @@ module _ (pipes : List Pipe) where
     outlet_is_outside head place there within =
         outlet_is_other head place there (same_Some place head (sym (is_outlet head place there).own ∙ in_strand pipes head place within))
 
-    -- places in file order
-    rising_places : AllPairs (λ x y. x < y) (places pipes)
-    rising_places i j d before within =
-        let count = length-range_with_len 0 (length pipes) in
-        omega (arith, before, get_or-range_with_len 0 (length pipes) i d (omega (arith, before, within, count)), get_or-range_with_len 0 (length pipes) j d (omega (arith, within, count)))
-
     -- no two nodes have one place
     not_twice : (head i j : ℕ) → i < j → j < length (strand_of pipes head ++ outlets_of pipes head)
         → get_or (strand_of pipes head ++ outlets_of pipes head) i 0 ≡ get_or (strand_of pipes head ++ outlets_of pipes head) j 0 → ⊥
@@ -197,10 +203,7 @@ module _ (pipes : List Pipe) where
         let ends = outlets_of pipes head in
         let count : length (own ++ ends) ≡ length own + length ends = length-append own ends in
         let rising_own : AllPairs (λ x y. x < y) own = AllPairs-filter (λ x y. x < y) (is_in_strand pipes head) (places pipes) rising_places in
-        let rising_ends : AllPairs (λ x y. x < y) ends =
-        AllPairs-filter (λ x y. x < y) (passes_at (takes_of head) pipes) (lanes pipes)
-        (AllPairs-filter (λ x y. x < y) (passes_at is_fed pipes) (heads pipes)
-        (AllPairs-filter (λ x y. x < y) (passes_at is_head pipes) (places pipes) rising_places)) in
+        let rising_ends = rising_outlets head in
         elim (cases_lt j (length own)) [
           | inl inner ↦
               let one : get_or (own ++ ends) i 0 ≡ get_or own i 0 = get_or_append_left own ends 0 i (omega (arith, before, inner)) in

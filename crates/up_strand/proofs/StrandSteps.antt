@@ -2,10 +2,12 @@
 use Rattle.std.proofs.Common.{◌≡◌, ℕ, ◌<◌, List, [], ◌++◌, length, map, get_or, Bool, true, false, Option, Some, None, is_some, refl, sym, ap, ◌∙◌, subst, arith, inl, inr}
 use Rattle.std.specs.Prelude.{◌==◌, MatchOption, if◌then◌else◌}
 use Rattle.std.specs.Option.{option_map_or, option_to_list}
+use Rattle.std.proofs.lemmas.Bool.{lt-leb}
 use Rattle.up_base.specs.Lists.{IsPrefix}
 use Rattle.up_model.specs.Chain.{IsRawSink}
 use Rattle.up_model.specs.Ends.{is_source}
 use Rattle.up_model.specs.Packet.{Flow}
+use Rattle.up_model.specs.Plans.{strand_of}
 use Rattle.up_model.specs.declared.form.SinkForm.TheVariants.{Raw}
 use Rattle.up_model.specs.declared.kind.Kind.{Kind}
 use Rattle.up_model.specs.declared.kind.Kind.TheVariants as kinds
@@ -13,6 +15,7 @@ use Rattle.up_model.specs.declared.outcome.Outcome.{Outcome}
 use Rattle.up_model.specs.declared.outcome.Outcome.TheVariants as outcomes
 use Rattle.up_model.specs.declared.plain_packet.PlainPacket.{PlainPacket}
 use Rattle.up_outside.specs.States.{SourceState, SinkState}
+use Rattle.up_strand.proofs.Found.{none_inside, ready_same}
 use Rattle.up_strand.proofs.NodeSteps.{any_has_module}
 use Rattle.up_strand.proofs.Sweeping.{swept_on}
 use Rattle.up_strand.specs.AnyModule.{any_kind, has_module}
@@ -21,7 +24,7 @@ use Rattle.up_strand.specs.Nodes.{PartStands, Seat, is_outlet, takes_from}
 use Rattle.up_strand.specs.Stand.{Past, Stand, StandWith, Went, AreAsPlaced}
 use Rattle.up_strand.specs.Steps.{IsGoing, OnceLooked, TreeIs, looked_from}
 use Rattle.up_strand.specs.StrandCalls.{is_done, is_output}
-use Rattle.up_strand.specs.Strands.{IntakeStands, IsAsEnded, IsBuilt, IsSent, IsWriting, StandsFor, StrandFits, first_ready, has_failed_at, kept_at, place_of, want_of}
+use Rattle.up_strand.specs.Strands.{IntakeStands, IsAsEnded, IsBuilt, IsSent, IsWriting, StandsFor, StandsForSome, StrandFits, first_ready, has_failed_at, has_item, kept_at, place_of, want_of}
 use Rattle.up_strand.specs.declared.intake.Intake.{Intake}
 use Rattle.up_strand.specs.declared.node.Node.{Node}
 use Rattle.up_strand.specs.declared.node.Part.{Part}
@@ -271,3 +274,16 @@ once_looked {P} {S} {K} Holds strand looked same found holds =
     let at_ready : looked.ready ≡ option_map_or (λ i. i) (first_ready (looked_from strand looked.ready)) (length strand.tree.nodes.items) =
     found ∙ ap (λ (s : Strand P S K). option_map_or (λ i. i) (first_ready s) (length s.tree.nodes.items)) same in
     subst Holds (sym same) (holds looked.ready at_ready)
+
+-- nothing waits for a lane at the pipes of a strand that stands for something once it has looked
+pub none_at_pipes : {P S K : Type 0} (plain : P → PlainPacket) (reads : S → SourceState) (writes : K → SinkState) (strand : Strand P S K) → strand.kept ≡ None
+    → OnceLooked strand (StandsForSome plain reads writes) → (i : ℕ) → i < length strand.caught.items → has_item strand i ≡ false
+none_at_pipes {P} {S} {K} plain reads writes strand none stands i below =
+    let count = length strand.tree.nodes.items in
+    let start : Strand P S K = looked_from strand 0 in
+    let ready : ℕ = option_map_or (λ i. i) (first_ready start) count in
+    let found : ready ≡ option_map_or (λ i. i) (first_ready (looked_from strand ready)) count =
+    ap (λ (first : Option ℕ). option_map_or (λ i. i) first count) (ready_same start (looked_from strand ready) none none refl refl refl) in
+    let some = stands ready found in
+    let catches : length strand.caught.items ≡ length (strand_of some.0.pipes some.0.head) = some.1.built.catches in
+    none_inside strand i (λ d within. some.1.built.outlets i d within ∙ lt-leb (length (strand_of some.0.pipes some.0.head)) i (omega (arith, below, catches)))

@@ -32,7 +32,8 @@ pub record History : Type 0 where
   pub ended : Option Outcome
   -- memory ran out
   pub short : Bool
-  -- by the head of each lane that it fills: the packets that were taken out for it, and whether the end was
+  -- by the head of each lane that it fills: the packets that were taken out for it, and whether the
+  -- end was
   pub sent : ℕ → Flow
   pub closed : ℕ → Bool
   -- by the place of each sink: whether a write to it failed
@@ -63,7 +64,8 @@ head_flow h = option_map_or
     (λ pipe. if is_source pipe.kind then carried_by h.ended pipe.kind h.read else h.came)
     (slice_get h.pipes h.head) []
 
--- the outcome of a pipe without a cause of its own, by whether memory ran out and by how the head's flow ended
+-- the outcome of a pipe without a cause of its own, by whether memory ran out and by how the head's
+-- flow ended
 abbrev pub outcome_without : Bool → Option Outcome → Outcome
 outcome_without true ended = NoMemory
 outcome_without false None = Whole
@@ -87,7 +89,8 @@ abbrev pub told_at : History → ℕ → Outcome
 told_at h place = option_map_or
     (λ pipe. outcome_by pipe.kind (h.failed place) h.short h.ended) (slice_get h.pipes place) Whole
 
--- what is told at last: where the strand wasn't done, a pipe without a cause of its own ended broken
+-- what is told at last: where the strand wasn't done, a pipe without a cause of its own ended
+-- broken
 abbrev pub told_at_last : Bool → Outcome → Outcome
 told_at_last true outcome = outcome
 told_at_last false Whole = Broken

@@ -5,7 +5,7 @@ use Rattle.up_model.specs.Ends.{is_source}
 use Rattle.up_model.specs.Kinds.{IsWithinBounds}
 use Rattle.up_model.specs.Meaning.{wholly, so_far, done_by}
 use Rattle.up_model.specs.Packet.{Flow, IsLegal, joined}
-use Rattle.up_model.specs.Tallies.{nothing, stopped}
+use Rattle.up_model.specs.Tallies.{IsAtMost, nothing, stopped}
 use Rattle.up_model.specs.Work.{Work}
 use Rattle.up_model.specs.declared.kind.Kind.{Kind}
 use Rattle.up_model.specs.declared.plain_packet.PlainPacket.{PlainPacket}
@@ -58,7 +58,8 @@ pub record IsDone {P K : Type 0} (node : Node P K) : Type 0 where
   pub ended : is_pipe node.part ≡ false
   pub whole : has_ended node.part ≡ is_whole node.part
 
--- memory ran out at it, and its module and what waits there are given up, but for what is left for another strand
+-- memory ran out at it, and its module and what waits there are given up, but for what is left for
+-- another strand
 pub record HasGivenUp {P K : Type 0} (old new : Node P K) : Type 0 where
   pub short : new.short ≡ true
   pub gone : is_pipe new.part ≡ false
@@ -85,13 +86,14 @@ node_work false (Some kind) fed = done_by so_far 0 kind fed
 node_work true (Some kind) fed = done_by wholly 0 kind fed
 
 -- of this work, what hasn't left waits in the outbox, but for what is lacking where memory ran out;
--- else the outbox has counted it
+-- the outbox has counted no more than it, and else all of it
 pub record Holds {P : Type 0} (plain : P → PlainPacket) (short : Bool) (work : Work)
     (out : Outgoing P) (gone : Flow) : Type 0 where
   pub lacking : Flow
   pub flow : work.flow ≡ gone ++ map plain out.packets ++ lacking
   pub all : short ≡ false → lacking ≡ []
   pub tally : short ≡ false → out.tally ≡ stopped work.tally
+  pub most : IsAtMost out.tally (stopped work.tally)
 
 module _ {P K : Type 0} (plain : P → PlainPacket) (state : K → SinkState) where
   -- a part is of the kind of its seat and took this flow; a sink that failed, or at which memory

@@ -7,7 +7,7 @@ use Rattle.up_base.specs.Lists.{IsPrefix}
 use Rattle.up_model.specs.Kinds.{module_kind}
 use Rattle.up_model.specs.Meaning.{Doing, Feeding, is_fed_by, selected, flow_by, pipe_work, input_by, bytes_by}
 use Rattle.up_model.specs.Packet.{Flow}
-use Rattle.up_model.specs.Tallies.{stopped}
+use Rattle.up_model.specs.Tallies.{IsAtMost, stopped}
 use Rattle.up_model.specs.declared.pipe.Pipe.{Pipe}
 use Rattle.up_outside.specs.States.{SinkState}
 use Rattle.up_strand.specs.Nodes.{Seat, is_outlet, takes_from}
@@ -16,12 +16,14 @@ use Rattle.up_strand.specs.declared.node.Node.{Node}
 use Rattle.up_strand.specs.declared.node.Part.TheVariants.{Sink}
 
 module _ (pipes : List Pipe) (places : ℕ → ℕ) where
-  -- the pipe takes from the pipe of the node from which its own node takes; what the head of a strand takes is told elsewhere
+  -- the pipe takes from the pipe of the node from which its own node takes; what the head of a
+  -- strand takes is told elsewhere
   abbrev pub IsInputOf : Option ℕ → Pipe → Type 0
   IsInputOf None pipe = Unit {0}
   IsInputOf (Some k) pipe = pipe.input ≡ Some (places k)
 
-  -- the pipe at the place is that of the node, whose module has the kind that the pipe's consumers ask for
+  -- the pipe at the place is that of the node, whose module has the kind that the pipe's consumers
+  -- ask for
   pub record IsNodeOf (place : ℕ) (seat : Seat) (input : Option ℕ) : Type 0 where
     pub pipe : Pipe
     pub there : slice_get pipes place ≡ Some pipe
@@ -38,8 +40,8 @@ module _ (pipes : List Pipe) (places : ℕ → ℕ) where
         → is_outlet (slice_index_or nodes k d).part ≡ false
 
 module _ (does : Doing) (pipes : List Pipe) (given : Feeding) where
-  -- something is fed from which each node's pipe is reached, nothing to a pipe behind the head, and what the head took is so told
-  -- by what its pipe takes
+  -- something is fed from which each node's pipe is reached, nothing to a pipe behind the head, and
+  -- what the head took is so told by what its pipe takes
   pub record AreFedAs {P K : Type 0} (IsTold : Flow → Flow → Type 0) (places : ℕ → ℕ)
       (nodes : List (Node P K)) (past : Past) : Type 0 where
     pub reaches : (i : ℕ) (d : Node P K) → i < length nodes
@@ -60,8 +62,8 @@ module _ (does : Doing) (pipes : List Pipe) (given : Feeding) where
   AreFedInPart places nodes past = AreFedAs IsPrefix places nodes past
 
   module _ {P K : Type 0} (state : K → SinkState) (places : ℕ → ℕ) where
-    -- the nodes put out and counted what the graph says, each outlet was given what its input put out, and each sink that works
-    -- was given its bytes
+    -- the nodes put out and counted what the graph says, each outlet was given what its input put
+    -- out, and each sink that works was given its bytes
     pub record IsReached (nodes : List (Node P K)) (past : Past) : Type 0 where
       pub put : (i : ℕ) (d : Node P K) → i < length nodes
           → is_outlet (slice_index_or nodes i d).part ≡ false
@@ -71,14 +73,17 @@ module _ (does : Doing) (pipes : List Pipe) (given : Feeding) where
           → past.fed i ≡ flow_by does pipes given (places k)
       pub sums : (i : ℕ) (d : Node P K) → i < length nodes
           → is_outlet (slice_index_or nodes i d).part ≡ false
-          → (slice_index_or nodes i d).out.tally ≡ stopped (pipe_work does pipes given (places i)).tally
+          → (slice_index_or nodes i d).out.tally
+          ≡ stopped (pipe_work does pipes given (places i)).tally
       pub sinks : (i : ℕ) (d : Node P K) (sink : K) (pipe : Pipe) → i < length nodes
           → (slice_index_or nodes i d).part ≡ Sink sink false
           → slice_get pipes (places i) ≡ Some pipe
-          → Appends (past.seats i).start.written (state sink).written (bytes_by does pipes given (places i) pipe)
+          → Appends (past.seats i).start.written (state sink).written
+          (bytes_by does pipes given (places i) pipe)
 
-    -- what has left each node is a prefix of what the graph says, each outlet was given a prefix of what its input is to put out,
-    -- and each sink, also one that failed or at which memory ran out, a prefix of its bytes
+    -- what has left each node is a prefix of what the graph says, no node counted more than that,
+    -- each outlet was given a prefix of what its input is to put out, and each sink, also one that
+    -- failed or at which memory ran out, a prefix of its bytes
     pub record IsReachedInPart (nodes : List (Node P K)) (past : Past) : Type 0 where
       pub put : (i : ℕ) (d : Node P K) → i < length nodes
           → is_outlet (slice_index_or nodes i d).part ≡ false
@@ -86,6 +91,10 @@ module _ (does : Doing) (pipes : List Pipe) (given : Feeding) where
       pub outlets : (i k : ℕ) (d : Node P K) → i < length nodes
           → takes_from (slice_index_or nodes i d).input k ≡ true
           → IsPrefix (past.fed i) (flow_by does pipes given (places k))
+      pub sums : (i : ℕ) (d : Node P K) → i < length nodes
+          → is_outlet (slice_index_or nodes i d).part ≡ false
+          → IsAtMost (slice_index_or nodes i d).out.tally
+          (stopped (pipe_work does pipes given (places i)).tally)
       pub sinks : (i : ℕ) (d : Node P K) (sink : K) (failed : Bool) (pipe : Pipe) → i < length nodes
           → (slice_index_or nodes i d).part ≡ Sink sink failed
           → slice_get pipes (places i) ≡ Some pipe

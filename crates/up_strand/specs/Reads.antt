@@ -10,7 +10,7 @@ use Rattle.up_strand.specs.declared.fill.Filled.{Filled}
 use Rattle.up_strand.specs.declared.fill.Stop.{Stop}
 use Rattle.up_strand.specs.declared.fill.Stop.TheVariants as stops
 use Rattle.up_strand.specs.declared.source_packet.Next.{Next}
-use Rattle.up_strand.specs.declared.source_packet.Next.TheVariants.{Packet, Last, End, Fault, TooLong, NoMemory}
+use Rattle.up_strand.specs.declared.source_packet.Next.TheVariants.{Packet, Last, End, Fault, TooLong, NoRoom, NoMemory}
 
 -- these bytes were read, so many, and the entry is the same
 pub record WereRead (old new : SourceState) (bytes : List ℕ) (count : ℕ) : Type 0 where
@@ -37,10 +37,12 @@ is_read_fault (Last p) = false
 is_read_fault End = false
 is_read_fault Fault = true
 is_read_fault TooLong = false
+is_read_fault NoRoom = false
 is_read_fault NoMemory = false
 
 module _ {P : Type 0} (plain : P → PlainPacket) (block left : ℕ) where
-  -- what the bytes that were taken are, by the answer: a block, or fewer at the end; what doesn't become a packet is given up
+  -- what the bytes that were taken are, by the answer: a block, or fewer at the end; what doesn't
+  -- become a packet is given up
   abbrev pub AreReadAs : Option (List ℕ) → List ℕ → Next P → Type 0
   AreReadAs rest taken (Packet p) = (plain p ≡ bare taken) × (length taken ≡ block) × (block ≤ left)
   AreReadAs rest taken (Last p) =
@@ -49,9 +51,11 @@ module _ {P : Type 0} (plain : P → PlainPacket) (block left : ℕ) where
   AreReadAs rest taken End = (taken ≡ []) × IsAtEnd rest
   AreReadAs rest taken Fault = (length taken < block) × (length taken ≤ left)
   AreReadAs rest taken TooLong = length taken ≡ left + 1
+  AreReadAs rest taken NoRoom = taken ≡ []
   AreReadAs rest taken NoMemory = Unit {0}
 
-  -- a source that may give so many bytes more gave at most a block, and at most one byte more than that
+  -- a source that may give so many bytes more gave at most a block, and at most one byte more than
+  -- that
   pub record ReadsPacket (old new : SourceState) (next : Next P) : Type 0 where
     pub taken : List ℕ
     pub took : WereRead old new taken (length taken)
@@ -67,6 +71,7 @@ NextFits fits family (Last p) = fits p family
 NextFits fits family End = Unit {0}
 NextFits fits family Fault = Unit {0}
 NextFits fits family TooLong = Unit {0}
+NextFits fits family NoRoom = Unit {0}
 NextFits fits family NoMemory = Unit {0}
 
 -- more was drawn of the store wherever there was room to read into
@@ -76,4 +81,5 @@ DrewFor before now (Last p) = before < now
 DrewFor before now End = before < now
 DrewFor before now Fault = before < now
 DrewFor before now TooLong = before < now
-DrewFor before now NoMemory = Unit {0}
+DrewFor before now NoRoom = Unit {0}
+DrewFor before now NoMemory = before < now

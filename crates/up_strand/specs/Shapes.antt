@@ -38,15 +38,20 @@ node_input pipes own head place =
 abbrev pub input_in : List (Option ℕ) → ℕ → Option ℕ
 input_in inputs i = slice_index_or inputs i None
 
+-- both take from the place, and none before the first or behind the last does
+pub record AreBetweenIn (inputs : List (Option ℕ)) (place : ℕ) (takers : Takers) : Type 0 where
+  pub rising : takers.first ≤ takers.last
+  pub within : takers.last < length inputs
+  pub first : takes_from (input_in inputs takers.first) place ≡ true
+  pub last : takes_from (input_in inputs takers.last) place ≡ true
+  pub all : (i : ℕ) → i < length inputs → takes_from (input_in inputs i) place ≡ true
+      → (takers.first ≤ i) × (i ≤ takers.last)
+
 -- these are the first and last that take from the place, or none does
 abbrev pub AreTakersIn : List (Option ℕ) → ℕ → Option Takers → Type 0
 AreTakersIn inputs place None =
     (i : ℕ) → i < length inputs → takes_from (input_in inputs i) place ≡ false
-AreTakersIn inputs place (Some takers) =
-    (takers.first ≤ takers.last) × (takers.last < length inputs)
-    × (takes_from (input_in inputs takers.last) place ≡ true)
-    × ((i : ℕ) → i < length inputs → takes_from (input_in inputs i) place ≡ true
-    → (takers.first ≤ i) × (i ≤ takers.last))
+AreTakersIn inputs place (Some takers) = AreBetweenIn inputs place takers
 
 module _ (pipes : List Pipe) (head : ℕ) (shape : Shape) where
   abbrev pub place_in : ℕ → ℕ

@@ -72,7 +72,8 @@ ended_where true = Some outcomes.NoMemory
 ended_where false = None
 
 module _ {P S K : Type 0} (strand : Strand P S K) where
-  -- the strand from which nothing can come back, and whose first node at which an item waits is this
+  -- the strand from which nothing can come back, and whose first node at which an item waits is
+  -- this
   abbrev pub looked_from : ℕ → Strand P S K
   looked_from ready = record strand { last = None; ready = ready }
 

@@ -1,5 +1,5 @@
 -- What the calls of a strand do, for every history for which it stood.
-use Rattle.std.specs.Prelude.{◌≡◌, ◌≢◌, ℕ, ◌+◌, ◌<◌, ◌≤◌, ◌==◌, ◌++◌, List, [], ◌∷◌, length, map, slice_get, slice_index_or, Bool, true, false, Option, Some, None, MatchOption, option_map, option_and_then, if◌then◌else◌}
+use Rattle.std.specs.Prelude.{◌≡◌, ◌≢◌, ◌⊎◌, ℕ, ◌+◌, ◌<◌, ◌≤◌, ◌==◌, ◌++◌, List, [], ◌∷◌, length, map, slice_get, slice_index_or, Bool, true, false, Option, Some, None, MatchOption, option_map, option_and_then, if◌then◌else◌}
 use Rattle.std.specs.Io.KnownBytes.{Appends, IsAtEnd}
 use Rattle.std.specs.List.{position}
 use Rattle.std.specs.Option.{option_map_or, is_some}
@@ -7,12 +7,14 @@ use Rattle.up_base.specs.Lists.{IsPrefix}
 use Rattle.up_model.specs.Meaning.{Doing, input_by, bytes_by}
 use Rattle.up_model.specs.Packet.{Flow, IsLegal}
 use Rattle.up_model.specs.Plans.{sinks_of, strand_of}
+use Rattle.up_model.specs.Tallies.{IsAtMost}
 use Rattle.up_model.specs.declared.form.SourceForm.TheVariants.{Raw}
 use Rattle.up_model.specs.declared.kind.Kind.TheVariants as kinds
 use Rattle.up_model.specs.declared.outcome.Outcome.{Outcome}
 use Rattle.up_model.specs.declared.outcome.Outcome.TheVariants as outcomes
 use Rattle.up_model.specs.declared.pipe.Pipe.{Pipe}
 use Rattle.up_model.specs.declared.plain_packet.PlainPacket.{PlainPacket}
+use Rattle.up_model.specs.declared.tally.Tally.{Tally}
 use Rattle.up_outside.specs.Counts.{CountsWhere}
 use Rattle.up_outside.specs.States.{SourceState, SinkState}
 use Rattle.up_queue.specs.declared.end_kind.EndKind.{EndKind}
@@ -33,7 +35,8 @@ use Rattle.up_strand.specs.declared.want.Want.TheVariants.{Read, Input, Output, 
 abbrev pub no_sink : SinkState
 no_sink = record { written = None; place = None; moved = None; faults = 0 }
 
--- by the place of its pipe, what each of these sinks told, which are those of the strand of the head
+-- by the place of its pipe, what each of these sinks told, which are those of the strand of the
+-- head
 abbrev pub sinks_told : {K : Type 0} → (K → SinkState) → List Pipe → ℕ → List K → ℕ → SinkState
 sinks_told writes pipes head sinks place = option_map_or writes (option_and_then (slice_get sinks)
     (position (λ other. other == place) (sinks_of pipes head))) no_sink
@@ -125,7 +128,7 @@ module _ {P S K : Type 0} (plain : P → PlainPacket) (reads : S → SourceState
     pub stays : h.short ≡ true → short ≡ true
 
   -- the source gave a packet's worth of bytes, or its flow ended; what was fed was drawn of the
-  -- store, and so was the room that was read into
+  -- store, and so was the room that was read into: without it nothing was read
   pub record SteppedRead {F : Type 0} (strand : Strand P S K) (h : History)
       (old new : StoreState F) : Type 0 where
     pub step : Stepped strand h []
@@ -135,6 +138,7 @@ module _ {P S K : Type 0} (plain : P → PlainPacket) (reads : S → SourceState
         → slice_get h.pipes h.head ≡ Some pipe
         → pipe.kind ≡ kinds.Source path (Raw size) limit → length step.read ≤ size
     pub room : step.ended ≢ Some outcomes.NoMemory → old.drawn < new.drawn
+    pub into : 0 < length step.read → old.drawn < new.drawn
     pub drawn : old.drawn + length step.fed ≤ new.drawn
 
   -- the item came through the lane of the head
@@ -186,7 +190,9 @@ module _ {S K : Type 0} (reads : S → SourceState) (writes : K → SinkState) w
     pub outcomes : end.outcomes
         ≡ map (λ place. told_at_last done (told_at h place)) (strand_of h.pipes h.head)
     pub tallies : h.short ≡ false → end.tallies ≡ map (sums_at h) (strand_of h.pipes h.head)
-    -- where memory ran out they may be any sums
+    -- where memory ran out no sum is more than it would have been
+    pub most : (k place : ℕ) (d : Tally) → slice_get (strand_of h.pipes h.head) k ≡ Some place
+        → IsAtMost (slice_index_or end.tallies k d) (sums_at h place)
     pub count : length end.tallies ≡ length (strand_of h.pipes h.head)
     pub source : MatchOption end.parts.source (h.source ≡ None)
         (λ source. SourceEnds h (reads source))
@@ -201,7 +207,18 @@ module _ (h : History) (lane : ℕ) (pipe : Pipe) where
   abbrev pub flow_due : Doing → Flow
   flow_due does = input_by does h.pipes (to_head h.head (head_flow h)) lane pipe
 
-  -- what was taken out comes first of that: all of it where nothing waits, and where the end was taken out
+  -- something is due still: a packet, or the end
+  abbrev pub HasMoreDue : Type 0
+  HasMoreDue = (length (h.sent lane) < length (flow_due (doing h.ended)))
+      ⊎ ((is_some h.ended ≡ true) × (h.closed lane ≡ false))
+
+  -- all that can be taken out was, but for what is lacking where memory ran out
+  pub record HasNoneWaiting : Type 0 where
+    pub all : h.short ≡ false → h.sent lane ≡ flow_due (doing h.ended)
+    pub over : is_some h.ended ≡ true → h.closed lane ≡ true
+
+  -- what was taken out comes first of that: all of it where nothing waits, and where the end was
+  -- taken out
   pub record LaneStands (want : Want) : Type 0 where
     pub first : IsPrefix (h.sent lane) (flow_due (doing h.ended))
     pub all : h.short ≡ false → is_output want ≡ false

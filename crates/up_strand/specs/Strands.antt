@@ -90,7 +90,8 @@ module _ {P S K : Type 0} (strand : Strand P S K) where
     pub nodes : NodesFit fits family strand.tree.nodes.items
     pub kept : MatchOption strand.kept (Unit {0}) (λ packet. fits packet family)
 
-  -- the strand is built of the pipes of its head's strand, in file order, and then of the ends of the lanes that it fills
+  -- the strand is built of the pipes of its head's strand, in file order, and then of the ends of
+  -- the lanes that it fills
   pub record IsBuilt (h : History) (past : Past) : Type 0 where
     pub well : IsWellFormed h.pipes
     pub is_head : Contains (heads h.pipes) h.head
@@ -123,7 +124,8 @@ module _ {P S K : Type 0} (strand : Strand P S K) where
   HasRooms h =
       HasOnlyRoom (length (strand_of h.pipes h.head)) (length (sinks_of h.pipes h.head)) strand.told
 
-  -- nothing waits but for lanes; which nodes go on, by how the flow ended and whether memory ran out
+  -- nothing waits but for lanes; which nodes go on, by how the flow ended and whether memory ran
+  -- out
   pub record IsAsEnded (h : History) : Type 0 where
     pub ended : strand.ended ≡ h.ended
     pub short : strand.tree.short ≡ h.short

@@ -18,11 +18,12 @@ abbrev pub TakesAt : {P K : Type 0} → List (Node P K) → ℕ → ℕ → Type
 TakesAt {P} {K} nodes i place =
     (d : Node P K) → takes_from (slice_index_or nodes i d).input place ≡ true
 
--- the last of them takes from the place, and no node before the first or behind the last does
+-- both take from the place, and no node before the first or behind the last does
 pub record AreBetween {P K : Type 0} (place : ℕ) (nodes : List (Node P K))
     (takers : Takers) : Type 0 where
   pub rising : takers.first ≤ takers.last
   pub within : takers.last < length nodes
+  pub first : TakesAt nodes takers.first place
   pub last : TakesAt nodes takers.last place
   pub all : (i : ℕ) (d : Node P K) → i < length nodes
       → takes_from (slice_index_or nodes i d).input place ≡ true
@@ -44,8 +45,9 @@ pub record IsTree {P K : Type 0} (rank : ℕ → ℕ) (nodes : List (Node P K)) 
 abbrev pub HasTree : {P K : Type 0} → List (Node P K) → Type 0
 HasTree nodes = (rank : ℕ → ℕ) × IsTree rank nodes
 
--- the order names the node at each place, and ranks don't fall along it
+-- the order names the node at each place once, and ranks don't fall along it
 pub record IsOrder (rank : ℕ → ℕ) (count : ℕ) (order : List ℕ) : Type 0 where
+  pub once : length order ≡ count
   pub within : AllAt (λ place. place < count) order
   pub all : (place : ℕ) → place < count
       → (k : ℕ) × (k < length order) × ((d : ℕ) → slice_index_or order k d ≡ place)

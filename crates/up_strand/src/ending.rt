@@ -38,8 +38,8 @@ fn end_at<P: LocalPacket, K: Sink>(
     }
 }
 
-/// The whole end of the head's flow: each pipe puts out what it owes, and all that comes is given on. After `NoMemory`
-/// some nodes are short.
+/// The whole end of the head's flow: each pipe puts out what it owes, and all that comes is given
+/// on. After `NoMemory` some nodes are short.
 pub fn end_all<P: LocalPacket, K: Sink>(
     nodes: &mut [Node<P, K>],
     order: &[usize],
@@ -80,8 +80,8 @@ pub fn break_all<P: LocalPacket, K: Sink>(nodes: &mut [Node<P, K>], s: &mut P::S
     }
 }
 
-/// Memory ran out: the nodes give up what they hold, but for what is left for other strands, and what they take from now
-/// on.
+/// Memory ran out: the nodes give up what they hold, but for what is left for other strands, and
+/// what they take from now on.
 pub fn fall<P: LocalPacket, K: Sink>(nodes: &mut [Node<P, K>], s: &mut P::Store)
     requires family { NodesFit P.fits (P.Store.state s.old).family nodes.old }
     ensures stand { StandWith P.plain K.state nodes.old nodes.new [] }

@@ -12,8 +12,8 @@ use up_base::NoMemory;
 use up_outside::Sink;
 use up_shape::LocalPacket;
 
-/// Gives the node a second packet of the same attributes and bytes, if it takes from the place. Where there is no
-/// memory for one it falls short.
+/// Gives the node a second packet of the same attributes and bytes, if it takes from the place.
+/// Where there is no memory for one it falls short.
 fn give_second<P: LocalPacket, K: Sink>(
     node: &mut Node<P, K>,
     place: usize,
@@ -46,8 +46,8 @@ fn give_second<P: LocalPacket, K: Sink>(
     }
 }
 
-/// Gives the packet to every node that takes from the place, of which these are the first and the last. The last gets
-/// the packet itself. After `NoMemory` some of them are short.
+/// Gives the packet to every node that takes from the place, of which these are the first and the
+/// last. The last gets the packet itself. After `NoMemory` some of them are short.
 pub fn give<P: LocalPacket, K: Sink>(
     nodes: &mut [Node<P, K>],
     place: usize,
@@ -78,8 +78,8 @@ pub fn give<P: LocalPacket, K: Sink>(
     }
 }
 
-/// Gives on all that waits at the node at the place, unless it is left there for another strand. After `NoMemory` some
-/// nodes are short, and packets may wait there still.
+/// Gives on all that waits at the node at the place, unless it is left there for another strand.
+/// After `NoMemory` some nodes are short, and packets may wait there still.
 pub fn pass_on<P: LocalPacket, K: Sink>(
     nodes: &mut [Node<P, K>],
     place: usize,

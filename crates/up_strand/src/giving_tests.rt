@@ -30,8 +30,8 @@ fn taker(alloc: Global, part: Part<MemSink>) -> Node<TrialPacket, MemSink>
     }
 }
 
-/// What came of a packet `abcd` that was given to two sinks, a `skip` of two bytes between them, and an outlet behind
-/// them.
+/// What came of a packet `abcd` that was given to two sinks, a `skip` of two bytes between them,
+/// and an outlet behind them.
 #[derive(Drop)]
 struct Wanted {
     given: Result<(), NoMemory>,

@@ -1,6 +1,7 @@
 /// Where the packets of a strand come from.
 pub enum Intake<S> {
-    /// A source, which puts out packets of `block` bytes, may give `limit` bytes in all, and `left` of them still.
+    /// A source, which puts out packets of `block` bytes, may give `limit` bytes in all, and `left`
+    /// of them still.
     FromSource {
         source: S,
         block: u32,

@@ -1,5 +1,5 @@
 // What follows from what a strand did. A law is the contract of a function that does nothing.
-ghost use Rattle.std.specs.Prelude.{◌≡◌, ◌≤◌, ◌+◌, ℕ, List, None, Some, true, false, is_some, length, slice_get};
+ghost use Rattle.std.specs.Prelude.{◌≡◌, ◌<◌, ◌≤◌, ◌+◌, ℕ, List, None, Some, true, false, is_some, length, slice_get};
 ghost use Rattle.std.specs.List.{Contains};
 ghost use Rattle.std.specs.Option.{IsSome};
 ghost use Rattle.up_base.specs.Lists.{IsPrefix};
@@ -14,7 +14,7 @@ ghost use Rattle.up_model.specs.declared.kind.Kind.TheVariants as kinds;
 ghost use Rattle.up_model.specs.declared.outcome.Outcome.{Outcome as TheOutcome};
 ghost use Rattle.up_model.specs.declared.pipe.Pipe.{Pipe as ThePipe};
 ghost use Rattle.up_strand.specs.History.{History, head_flow, to_head};
-ghost use Rattle.up_strand.specs.StrandCalls.{LaneStands};
+ghost use Rattle.up_strand.specs.StrandCalls.{HasMoreDue, HasNoneWaiting, LaneStands};
 ghost use Rattle.up_strand.specs.Strands.{StandsFor, ended_at_fault, want_of};
 ghost use Rattle.up_strand.specs.declared.strand.Strand.{Strand as TheStrand};
 ghost use Rattle.up_strand.specs.declared.want.Want.TheVariants as wants;
@@ -22,9 +22,10 @@ ghost use Rattle.up_strand.specs.declared.want.Want.TheVariants as wants;
 use up_outside::{Sink, Source};
 use up_shape::LocalPacket;
 
-/// The head of a strand was fed the packets that it had; where memory ran out, the first of them. How a source ended is
-/// told by its bytes, and by whether a read failed; at most one byte past its limit was read, and none where a read failed.
-/// Where a source ended by a cause of its own, memory hadn't run out.
+/// The head of a strand was fed the packets that it had; where memory ran out, the first of them.
+/// How a source ended is told by its bytes, and by whether a read failed; at most one byte past its
+/// limit was read, and none where a read failed. Where a source ended by a cause of its own, memory
+/// hadn't run out.
 pub fn a_head_is_fed_what_it_has<P: LocalPacket, S: Source, K: Sink>()
     ensures first { (strand : TheStrand P S K) (h : History)
         → StandsFor P.plain S.state K.state strand h → IsPrefix h.fed (head_flow h) }
@@ -51,7 +52,8 @@ pub fn a_head_is_fed_what_it_has<P: LocalPacket, S: Source, K: Sink>()
         → h.ended ≡ Some outcome → is_cause outcome ≡ true → h.short ≡ false }
 {}
 
-/// What was taken out for a lane is what its head takes, where the head of this strand has the packets that it had.
+/// What was taken out for a lane is what its head takes, where the head of this strand has the
+/// packets that it had.
 pub fn lanes_are_given_the_flow<P: LocalPacket, S: Source, K: Sink>()
     ensures { (strand : TheStrand P S K) (h : History) (lane : ℕ) (pipe : ThePipe)
         → StandsFor P.plain S.state K.state strand h
@@ -59,8 +61,9 @@ pub fn lanes_are_given_the_flow<P: LocalPacket, S: Source, K: Sink>()
         → LaneStands h lane pipe (want_of strand) }
 {}
 
-/// A strand whose flow goes on asks for what its head is fed from; an item that waits is for a lane that it fills and whose
-/// end wasn't taken out; it is done only once its flow has ended.
+/// A strand whose flow goes on asks for what its head is fed from; an item that waits is for a lane
+/// that it fills and whose end wasn't taken out: of those for which something is due, the one whose
+/// head is the first in the file; it is done only once its flow has ended.
 pub fn a_strand_asks_by_what_it_did<P: LocalPacket, S: Source, K: Sink>()
     ensures read { (strand : TheStrand P S K) (h : History)
         → StandsFor P.plain S.state K.state strand h → want_of strand ≡ wants.Read
@@ -71,6 +74,13 @@ pub fn a_strand_asks_by_what_it_did<P: LocalPacket, S: Source, K: Sink>()
     ensures output { (strand : TheStrand P S K) (h : History) (lane : ℕ)
         → StandsFor P.plain S.state K.state strand h → want_of strand ≡ wants.Output lane
         → Contains (outlets_of h.pipes h.head) lane × (h.closed lane ≡ false) }
+    ensures due { (strand : TheStrand P S K) (h : History) (lane : ℕ) (pipe : ThePipe)
+        → StandsFor P.plain S.state K.state strand h → want_of strand ≡ wants.Output lane
+        → slice_get h.pipes lane ≡ Some pipe → HasMoreDue h lane pipe }
+    ensures least { (strand : TheStrand P S K) (h : History) (lane other : ℕ) (pipe : ThePipe)
+        → StandsFor P.plain S.state K.state strand h → want_of strand ≡ wants.Output lane
+        → Contains (outlets_of h.pipes h.head) other → other < lane
+        → slice_get h.pipes other ≡ Some pipe → HasNoneWaiting h other pipe }
     ensures done { (strand : TheStrand P S K) (h : History)
         → StandsFor P.plain S.state K.state strand h → want_of strand ≡ wants.Done
         → is_some h.ended ≡ true }

@@ -1,4 +1,5 @@
-//! A strand: a source, or a pipe behind a lane, and the tree of pipes behind it that one worker runs, a packet at a time.
+//! A strand: a source, or a pipe behind a lane, and the tree of pipes behind it that one worker
+//! runs, a packet at a time.
 #![tactic(auto)]
 
 mod any_module;

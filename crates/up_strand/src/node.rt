@@ -38,7 +38,8 @@ pub struct Takers {
     pub last: usize,
 }
 
-/// A pipe of a strand, or the end of a lane, with the packets that it has put out and that weren't taken yet.
+/// A pipe of a strand, or the end of a lane, with the packets that it has put out and that weren't
+/// taken yet.
 pub struct Node<P, K> {
     /// The place in the strand of the node that it takes from. The head has none.
     pub input: Option<usize>,
@@ -105,7 +106,8 @@ impl<P: LocalPacket, K: Sink> Node<P, K> {
         }
     }
 
-    /// The same where memory hasn't run out before. After `NoMemory` its module is one to be given up.
+    /// The same where memory hasn't run out before. After `NoMemory` its module is one to be given
+    /// up.
     fn take_in(&mut self, p: P, s: &mut P::Store) -> Result<(), NoMemory>
         requires sound { IsSound self.old }
         requires legal { IsLegal (P.plain p) }
@@ -236,7 +238,8 @@ impl<P: LocalPacket, K: Sink> Node<P, K> {
         give_up_waiting(&mut self.out, s);
     }
 
-    /// Memory ran out: it gives up what it holds, but for what is left for another strand, and what it takes from now on.
+    /// Memory ran out: it gives up what it holds, but for what is left for another strand, and what
+    /// it takes from now on.
     pub fn abandon(&mut self, s: &mut P::Store)
         requires family { NodeFits P.fits self.old (P.Store.state s.old).family }
         ensures took { Took P.plain K.state self.old self.new [] }

@@ -6,7 +6,8 @@ ghost use Rattle.up_strand.specs.Strands.{outcome_of_part};
 use crate::node::Part;
 use up_model::Outcome;
 
-/// The outcome of a pipe without a cause of its own, by whether memory ran out and by how the flow of the head ended.
+/// The outcome of a pipe without a cause of its own, by whether memory ran out and by how the flow
+/// of the head ended.
 fn without_cause(short: bool, ended: Option<Outcome>) -> Outcome
     ensures { result ≡ outcome_without short ended }
 {

@@ -25,7 +25,8 @@ impl<P: LocalPacket, S: Source, K: Sink> Strand<P, S, K> {
             && (kept || node.out.len() > 0 || (self.ended.is_some() && !self.closed[i]))
     }
 
-    /// The first node, from this one on, at which an item waits for a lane, or how many nodes there are.
+    /// The first node, from this one on, at which an item waits for a lane, or how many nodes there
+    /// are.
     pub(crate) fn ready_from(&self, from: usize) -> usize
         requires closed { length self.now.closed.items ≡ length self.now.tree.nodes.items }
         requires before { (i : ℕ) → i < from → has_item self.now i ≡ false }
@@ -72,20 +73,24 @@ impl<P: LocalPacket, S: Source, K: Sink> Strand<P, S, K> {
         }
     }
 
-    /// Nothing that was taken out can come back, and what waits is known.
+    /// Nothing that was taken out can come back, and what waits is known. It looks behind the nodes
+    /// of the pipes, at which nothing waits for a lane.
     pub(crate) fn look_for_output(&mut self)
         requires closed { length self.old.closed.items ≡ length self.old.tree.nodes.items }
         requires kept { self.old.kept ≡ None }
+        requires pipes { (i : ℕ) → i < length self.old.caught.items
+            → has_item self.old i ≡ false }
         ensures same { self.new ≡ record self.old { last = None; ready = self.new.ready } }
         ensures ready { self.new.ready
             ≡ option_map_or (λ i. i) (first_ready self.new) (length self.new.tree.nodes.items) }
     {
         self.last = None;
-        self.ready = self.ready_from(0);
+        self.ready = self.ready_from(self.caught.len());
     }
 }
 
-/// The end that a strand passes on, by whether memory ran out and by how the flow of its head ended.
+/// The end that a strand passes on, by whether memory ran out and by how the flow of its head
+/// ended.
 fn end_by(short: bool, ended: Option<Outcome>) -> EndKind
     ensures { result ≡ end_by short ended }
 {

@@ -11,9 +11,9 @@ ghost use Rattle.up_strand.specs.declared.node.Node.{Node as TheNode};
 use up_outside::Sink;
 use up_shape::LocalPacket;
 
-/// Nodes at which memory didn't run out, and at which nothing waits but in outlets, put out and counted what the graph
-/// says of what their head was fed: what is settled of it while flows go on and where they broke off, and all of it once
-/// they came to their whole end.
+/// Nodes at which memory didn't run out, and at which nothing waits but in outlets, put out and
+/// counted what the graph says of what their head was fed: what is settled of it while flows go on
+/// and where they broke off, and all of it once they came to their whole end.
 pub fn nodes_come_to_the_meaning<P: LocalPacket, K: Sink>()
     ensures settled { (pipes : List ThePipe) (places : ℕ → ℕ) (given : Feeding)
         (nodes : List (TheNode P K)) (past : Past) → HasTree nodes
@@ -27,8 +27,9 @@ pub fn nodes_come_to_the_meaning<P: LocalPacket, K: Sink>()
         → IsReached wholly pipes given K.state places nodes past }
 {}
 
-/// Whatever became of memory, what the nodes put out and wrote comes first of what the graph says of what their head was
-/// fed: of all of it, and where no flow came to its whole end of what is settled.
+/// Whatever became of memory, what the nodes put out and wrote comes first of what the graph says
+/// of what their head was fed: of all of it, and where no flow came to its whole end of what is
+/// settled.
 pub fn nodes_come_to_a_first_part<P: LocalPacket, K: Sink>()
     ensures so_far { (pipes : List ThePipe) (places : ℕ → ℕ) (given : Feeding)
         (nodes : List (TheNode P K)) (past : Past) → HasTree nodes

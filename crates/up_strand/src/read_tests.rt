@@ -131,7 +131,7 @@ fn read_all(
             Next::End => return Ok(Ended::Whole),
             Next::Fault => return Ok(Ended::Fault),
             Next::TooLong => return Ok(Ended::TooLong),
-            Next::NoMemory => return Ok(Ended::NoMemory),
+            Next::NoRoom | Next::NoMemory => return Ok(Ended::NoMemory),
         }
     }
     Ok(Ended::NoMemory)

@@ -1,4 +1,5 @@
-// The tree of a strand before it has nodes: which pipes it has, what each takes from, and in which order they are swept.
+// The tree of a strand before it has nodes: which pipes it has, what each takes from, and in which
+// order they are swept.
 ghost use Rattle.std.specs.Prelude.{◌≡◌, ◌==◌, ◌≤◌, ◌<◌, ◌++◌, ℕ, List, None, length, map, position, slice_index_or, IfOk};
 ghost use Rattle.std.specs.List.{Contains, filter, range_with_len};
 ghost use Rattle.std.specs.Option.{is_some};
@@ -18,8 +19,8 @@ use up_base::NoMemory;
 use up_model::{Graph, PipeList, PlaceList};
 use up_plan::Plan;
 
-/// The tree of a strand, by the places of its nodes: its pipes in the order of the file, then the ends of the lanes that
-/// it fills, in the order of their heads.
+/// The tree of a strand, by the places of its nodes: its pipes in the order of the file, then the
+/// ends of the lanes that it fills, in the order of their heads.
 #[derive(Debug, Drop)]
 pub(crate) struct Shape {
     /// The place of each node's pipe; of the end of a lane, that of its head.
@@ -111,7 +112,8 @@ fn node_at(own: &[u16], place: u16) -> Option<usize>
     own.iter().position(|other| *other == place)
 }
 
-/// The node of the pipe from which the pipe at a place takes, where these are the places of the nodes of pipes.
+/// The node of the pipe from which the pipe at a place takes, where these are the places of the
+/// nodes of pipes.
 fn input_among(pipes: &PipeList, own: &[u16], place: u16) -> Option<usize>
     ensures { result ≡ shapes.input_among pipes.now own.now place }
 {

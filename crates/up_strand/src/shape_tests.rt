@@ -21,8 +21,9 @@ enum Does {
 
 use Does::{Dup, Pass, Sink, Source};
 
-/// What each pipe does, on which worker, and the place that it takes from: a `dup` feeds a sink that stands before it, a
-/// pipe with a sink behind it, and a pipe of another worker with its own sink.
+/// What each pipe does, on which worker, and the place that it takes from: a `dup` feeds a sink
+/// that stands before it, a pipe with a sink behind it, and a pipe of another worker with its own
+/// sink.
 const ROWS: [(Does, &str, Option<u16>); 7] = [
     (Sink, "near", Some(2)),
     (Source, "near", None),

@@ -22,7 +22,8 @@ fn drain<K: Sink>(sink: &mut K, piece: &[u8]) -> Result<(), Refusal>
     Ok(())
 }
 
-/// Writes the bytes of a packet from where they lie, a run at a time. After a refusal a prefix of them was written.
+/// Writes the bytes of a packet from where they lie, a run at a time. After a refusal a prefix of
+/// them was written.
 pub fn write_packet<P: LocalPacket, K: Sink>(p: &P, sink: &mut K) -> Result<(), Refusal>
     ensures bytes { Receives (K.state sink.old) (K.state sink.new)
         (is_ok result) (P.plain p.now).bytes }

@@ -23,7 +23,9 @@ pub enum Next<P> {
     Fault,
     /// It has more bytes than its limit.
     TooLong,
-    /// No memory was found.
+    /// No room was found to read into: nothing was read.
+    NoRoom,
+    /// No memory was found for a packet of what was read, which is lost.
     NoMemory,
 }
 
@@ -58,7 +60,8 @@ fn packet_of<P: LocalPacket>(room: P::Room, count: u32, s: &mut P::Store) -> Opt
     }
 }
 
-/// Reads up to a block of a source that may give `left` bytes more. The room for it is taken before the first read.
+/// Reads up to a block of a source that may give `left` bytes more. The room for it is taken before
+/// the first read.
 pub fn read_packet<P: LocalPacket, S: Source>(
     source: &mut S,
     block: u32,
@@ -74,7 +77,7 @@ pub fn read_packet<P: LocalPacket, S: Source>(
     ensures store { Stays (P.Store.state s.old) (P.Store.state s.new) }
 {
     let Ok(mut room) = P::room(block, s) else {
-        return Next::NoMemory;
+        return Next::NoRoom;
     };
     let want = u64::from(block).min(left + 1) as u32;
     let Filled { count, stop } = fill_room::<P, S>(source, &mut room, want as usize);

@@ -22,8 +22,8 @@ use up_outside::{Sink, Source};
 use up_queue::{EndKind, Item};
 use up_shape::LocalPacket;
 
-/// A source, or a pipe behind a lane, and the pipes behind it that one worker runs, a packet at a time. It can't be
-/// dropped: `finish` gives it up.
+/// A source, or a pipe behind a lane, and the pipes behind it that one worker runs, a packet at a
+/// time. It can't be dropped: `finish` gives it up.
 pub struct Strand<P, S, K> {
     pub(crate) tree: Tree<P, K>,
     /// The place of each node's pipe; of the end of a lane, that of its head.
@@ -46,8 +46,8 @@ pub struct Strand<P, S, K> {
 }
 
 impl<P: LocalPacket, S: Source, K: Sink> Strand<P, S, K> {
-    /// What it is to be asked for next. An item that waits for a lane comes first, and of lanes the one whose head is
-    /// the first in the file.
+    /// What it is to be asked for next. An item that waits for a lane comes first, and of lanes the
+    /// one whose head is the first in the file.
     pub fn wants(&self) -> Want
         requires stands { StandsForSome P.plain S.state K.state self.now }
         ensures { result ≡ want_of self.now }
@@ -83,8 +83,8 @@ impl<P: LocalPacket, S: Source, K: Sink> Strand<P, S, K> {
         item
     }
 
-    /// Puts back the item that was taken out last, where its lane has no room. After a step nothing can come back. It
-    /// takes no memory.
+    /// Puts back the item that was taken out last, where its lane has no room. After a step nothing
+    /// can come back. It takes no memory.
     pub fn keep_out(&mut self, item: Item<P>)
         requires came { CameOut P.plain S.state K.state self.old item }
         ensures back { (h : History) (lane : ℕ) → lane_given self.old ≡ Some lane
@@ -103,8 +103,8 @@ impl<P: LocalPacket, S: Source, K: Sink> Strand<P, S, K> {
         self.ready = at;
     }
 
-    /// Reads a packet's worth of its source, and feeds it: bytes that don't fill a block are fed at the end of the
-    /// source alone.
+    /// Reads a packet's worth of its source, and feeds it: bytes that don't fill a block are fed at
+    /// the end of the source alone.
     pub fn step_read(&mut self, s: &mut P::Store)
         requires stands { StandsForSome P.plain S.state K.state self.old }
         requires want { want_of self.old ≡ wants.Read }
@@ -153,6 +153,7 @@ impl<P: LocalPacket, S: Source, K: Sink> Strand<P, S, K> {
             Next::Fault => self.end(Outcome::ReadFault, s),
             Next::TooLong => self.end(Outcome::TooLong { limit }, s),
             Next::NoMemory => self.run_short(s),
+            Next::NoRoom => self.run_short(s),
         }
     }
 
@@ -227,8 +228,8 @@ impl<P: LocalPacket, S: Source, K: Sink> Strand<P, S, K> {
         self.ended = ended_where(self.tree.short);
     }
 
-    /// Feeds the last packet of a source, and ends the flow: wholly, also where memory runs out, but then the end that is
-    /// passed on is broken.
+    /// Feeds the last packet of a source, and ends the flow: wholly, also where memory runs out,
+    /// but then the end that is passed on is broken.
     fn feed_last(&mut self, p: P, s: &mut P::Store)
         requires long { self.old.tree.short ≡ false }
         requires going { IsGoing P.plain K.state P.fits (P.Store.state s.old).family

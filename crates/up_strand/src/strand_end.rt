@@ -11,7 +11,8 @@ pub struct StrandParts<S, K> {
     pub sinks: SinkList<K>,
 }
 
-/// What is left of a strand: its parts, and how its pipes ended and what they did, in the order of the file.
+/// What is left of a strand: its parts, and how its pipes ended and what they did, in the order of
+/// the file.
 pub struct StrandEnd<S, K> {
     pub parts: StrandParts<S, K>,
     pub outcomes: OutcomeList,

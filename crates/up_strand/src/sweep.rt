@@ -12,7 +12,8 @@ use up_base::NoMemory;
 use up_outside::Sink;
 use up_shape::LocalPacket;
 
-/// Gives on all that waits, in an order from the head to the ends. After `NoMemory` some nodes are short.
+/// Gives on all that waits, in an order from the head to the ends. After `NoMemory` some nodes are
+/// short.
 pub fn settle<P: LocalPacket, K: Sink>(
     nodes: &mut [Node<P, K>],
     order: &[usize],
@@ -39,7 +40,8 @@ pub fn settle<P: LocalPacket, K: Sink>(
     Ok(())
 }
 
-/// Puts a packet in at the head, and gives on all that comes of it. After `NoMemory` some nodes are short.
+/// Puts a packet in at the head, and gives on all that comes of it. After `NoMemory` some nodes are
+/// short.
 pub fn feed_head<P: LocalPacket, K: Sink>(
     nodes: &mut [Node<P, K>],
     order: &[usize],

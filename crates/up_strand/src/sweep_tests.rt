@@ -36,8 +36,8 @@ fn feed(
     assert_eq!(rt; feed_head(nodes, order, packet, s), Ok(()));
 }
 
-/// The head, `dup` behind it, two sinks, a `skip` of two bytes and an outlet behind that, and a third sink behind the
-/// `skip`.
+/// The head, `dup` behind it, two sinks, a `skip` of two bytes and an outlet behind that, and a
+/// third sink behind the `skip`.
 const ORDER: [usize; 7] = [1, 3, 2, 4, 5, 6, 0];
 
 /// How the flow of a tree is ended.

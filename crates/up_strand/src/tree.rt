@@ -18,7 +18,8 @@ use up_shape::LocalPacket;
 
 /// The nodes of a strand.
 pub struct Tree<P, K> {
-    /// Its pipes in the order of the file, then the ends of the lanes that it fills, in the order of their heads.
+    /// Its pipes in the order of the file, then the ends of the lanes that it fills, in the order
+    /// of their heads.
     pub nodes: Vec<Node<P, K>>,
     /// The places of all nodes, each behind the one that it takes from.
     pub order: Vec<usize>,

@@ -30,6 +30,6 @@ returns-in-Err-clause-gave g c =
     let takes : takes_from old.input c.args.place ≡ true = sym c.takes_from.ensures ∙ c.if-not-takes_from.false in
     let taking = c.requires.ready takes in
     let legal = All-cons IsLegal packet [] c.requires.legal (All-nil IsLegal) in
-    let given_up = short_took plain state new new (packet ∷ []) c.fall.ensures.short refl refl (c.fall.ensures.whole ∙ taking.goes_on) legal in
+    let given_up = short_took plain state new new (packet ∷ []) c.fall.ensures.short refl refl refl (c.fall.ensures.whole ∙ taking.goes_on) legal in
     given_one plain state _ old new c.args.place packet takes (Took-after plain state old new new (packet ∷ []) c.fall.ensures.took given_up)
     c.fall.ensures.placed (λ _. record { goes_on = c.fall.ensures.whole ∙ taking.goes_on; gone = λ _. c.fall.ensures.short }) (λ wrong. absurd (cc))

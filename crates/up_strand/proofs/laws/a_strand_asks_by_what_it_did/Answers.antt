@@ -1,6 +1,6 @@
 use Rattle.std.proofs.Common.{is_some, refl, sym, ap, ◌∙◌}
 use Rattle.up_strand.proofs.HeadFlows.{none_of, reads_of_source, takes_of_lane, wants_more}
-use Rattle.up_strand.proofs.LaneFlows.{ended_of_done, waits_for_lane}
+use Rattle.up_strand.proofs.LaneFlows.{ended_of_done, more_due, none_waiting, waits_for_lane}
 use Rattle.up_strand.proofs.laws.a_strand_asks_by_what_it_did.Goals as goal
 use Rattle.up_strand.specs.Strands.{first_ready, place_of, wants_in}
 use Rattle.up_strand.specs.declared.want.Want.TheVariants.{Read, Input}
@@ -17,6 +17,18 @@ returns-clause-input g c strand h stands wants =
 
 pub returns-clause-output : goal.returns-clause-output
 returns-clause-output g c strand h lane stands wants = waits_for_lane g.P.LocalPacket.plain g.S.Source.state g.K.Sink.state strand h stands lane wants
+
+pub returns-clause-due : goal.returns-clause-due
+returns-clause-due g c strand h lane pipe stands wants there =
+    let plain = g.P.LocalPacket.plain in
+    let is_one = waits_for_lane plain g.S.Source.state g.K.Sink.state strand h stands lane wants in
+    more_due plain g.S.Source.state g.K.Sink.state strand h stands lane pipe wants is_one.0 there
+
+pub returns-clause-least : goal.returns-clause-least
+returns-clause-least g c strand h lane other pipe stands wants contains less there =
+    let plain = g.P.LocalPacket.plain in
+    let is_one = waits_for_lane plain g.S.Source.state g.K.Sink.state strand h stands lane wants in
+    none_waiting plain g.S.Source.state g.K.Sink.state strand h stands lane other pipe wants is_one.0 contains less there
 
 pub returns-clause-done : goal.returns-clause-done
 returns-clause-done g c strand h stands wants = ended_of_done g.P.LocalPacket.plain g.S.Source.state g.K.Sink.state strand h stands wants

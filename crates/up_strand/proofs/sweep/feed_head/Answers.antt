@@ -112,3 +112,11 @@ returns-in-Ok-settle-clause-family g c = rw c.take.ensures.store.same at c.settl
 
 pub returns-in-Err-settle-clause-family : goal.returns-in-Err-settle-clause-family
 returns-in-Err-settle-clause-family g c = rw c.take.ensures.store.same at c.settle.ensures.family
+
+pub take-requires-clause-taking : goal.take-requires-clause-taking
+take-requires-clause-taking g c =
+    c.requires.taking (get_or c.args.order.now 0 0) c.index-nodes-order.result (c.requires.swept.sweeps.within 0 0 c.requires.some)
+
+pub take-requires-clause-family : goal.take-requires-clause-family
+take-requires-clause-family g c =
+    c.requires.family (get_or c.args.order.now 0 0) c.index-nodes-order.result (c.requires.swept.sweeps.within 0 0 c.requires.some)

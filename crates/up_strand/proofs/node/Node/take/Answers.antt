@@ -9,7 +9,7 @@ returns-then-self-clause-took g c =
     let packet = g.P.LocalPacket.plain c.args.p in
     let legal = All-cons IsLegal packet [] c.requires.legal (All-nil IsLegal) in
     short_took g.P.LocalPacket.plain g.K.Sink.state c.args.self.now c.args.self.now (packet ∷ [])
-    c.if-self.true refl refl c.requires.taking.goes_on legal
+    c.if-self.true refl refl refl c.requires.taking.goes_on legal
 
 pub returns-in-Err-clause-took : goal.returns-in-Err-clause-took
 returns-in-Err-clause-took g c =

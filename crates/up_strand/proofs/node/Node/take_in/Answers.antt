@@ -37,7 +37,7 @@ returns-in-Ok-put_out-clause-took g c =
 pub returns-in-Err-put_out-clause-took : goal.returns-in-Err-put_out-clause-took
 returns-in-Err-put_out-clause-took g c =
     short_took g.P.LocalPacket.plain g.K.Sink.state c.args.self.now _ (g.P.LocalPacket.plain c.args.p ∷ [])
-    refl refl c.in-Err-put_out.ensures.unchanged (rw c.in-Head.is refl) (All-cons IsLegal _ [] c.requires.legal (All-nil IsLegal))
+    refl refl c.in-Err-put_out.ensures.unchanged c.put_out.ensures.tally (rw c.in-Head.is refl) (All-cons IsLegal _ [] c.requires.legal (All-nil IsLegal))
 
 pub returns-in-Ok-put_out-2-clause-took : goal.returns-in-Ok-put_out-2-clause-took
 returns-in-Ok-put_out-2-clause-took g c =
@@ -47,4 +47,4 @@ returns-in-Ok-put_out-2-clause-took g c =
 pub returns-in-Err-put_out-2-clause-took : goal.returns-in-Err-put_out-2-clause-took
 returns-in-Err-put_out-2-clause-took g c =
     short_took g.P.LocalPacket.plain g.K.Sink.state c.args.self.now _ (g.P.LocalPacket.plain c.args.p ∷ [])
-    refl refl c.in-Err-put_out-2.ensures.unchanged (rw c.in-Outlet.is refl) (All-cons IsLegal _ [] c.requires.legal (All-nil IsLegal))
+    refl refl c.in-Err-put_out-2.ensures.unchanged c.put_out-in-Outlet.ensures.tally (rw c.in-Outlet.is refl) (All-cons IsLegal _ [] c.requires.legal (All-nil IsLegal))

@@ -2,7 +2,7 @@ use Rattle.std.proofs.Common.{◌≡◌, ◌++◌, false, length, take, drop, sy
 use Rattle.std.proofs.Math.Seq.{take-append_seam}
 use Rattle.up_shape.proofs.StoreSteps.{Stays-refl, Stays-trans}
 use Rattle.up_shape.specs.Stores.{Stays}
-use Rattle.up_strand.proofs.GivenUp.{sinks_are, none_left, fits_left, outcomes_are, tallies_are, count_is, as_many_sinks, written_is}
+use Rattle.up_strand.proofs.GivenUp.{sinks_are, none_left, fits_left, outcomes_are, tallies_are, most_is, count_is, as_many_sinks, written_is}
 use Rattle.up_strand.specs.Closing.{AreTold, AreWithoutSinks}
 use Rattle.up_strand.specs.StrandCalls.{is_done}
 use Rattle.up_strand.specs.Strands.{want_of}
@@ -78,6 +78,7 @@ returns-clause-finished g c h stands =
     record {
       outcomes = rw (c.into_list-2.ensures, sym done) (outcomes_are plain reads writes strand h stands ending told refl refl are);
       tallies = λ long. c.into_list-3.ensures ∙ tallies_are plain reads writes strand h stands ending told refl refl are long;
+      most = rw c.into_list-3.ensures (most_is plain reads writes strand h stands ending told refl refl are);
       count = ap length c.into_list-3.ensures ∙ count_is plain reads writes strand h stands ending told refl refl are;
       source = c.source_of.ensures h stands.intake;
       sinks = ap length c.into_list.ensures ∙ as_many_sinks plain reads writes strand h stands ending told refl refl are;

@@ -1,10 +1,15 @@
 use Rattle.std.proofs.Common.{subst, sym}
-use Rattle.up_strand.proofs.StrandSteps.{once_looked}
+use Rattle.up_strand.proofs.StrandSteps.{none_at_pipes, once_looked}
 use Rattle.up_strand.specs.History.{History}
 use Rattle.up_strand.specs.StrandCalls.{SteppedRead}
 use Rattle.up_strand.specs.Strands.{StandsFor, StrandFits}
 use Rattle.up_strand.specs.declared.strand.Strand.{Strand}
 use Rattle.up_strand.proofs.strand.Strand.step_read.Goals as goal
+
+pub look_for_output-requires-clause-pipes : goal.look_for_output-requires-clause-pipes
+look_for_output-requires-clause-pipes g c =
+    none_at_pipes g.P.LocalPacket.plain g.S.Source.state g.K.Sink.state c.take_read.new.self c.take_read.ensures.kept
+    (λ ready found. (_, (c.take_read.ensures.stepped ready found c.requires.stands.0 c.requires.stands.1).step.stands))
 
 pub returns-clause-stepped : goal.returns-clause-stepped
 returns-clause-stepped g c =

@@ -1,4 +1,4 @@
-use Rattle.std.proofs.Common.{ap}
+use Rattle.std.proofs.Common.{ap, arith, length, refl}
 use Rattle.up_strand.proofs.ReadStrands.{block_taken, end_taken, fault_taken, last_taken, long_taken, none_taken, read_fits, read_is_going, read_is_legal}
 use Rattle.up_strand.specs.declared.strand.Strand.{Strand}
 use Rattle.up_strand.proofs.strand.Strand.take_read.Goals as goal
@@ -36,6 +36,13 @@ end-requires-in-TooLong g c =
 
 pub run_short-requires : goal.run_short-requires
 run_short-requires g c =
+    record {
+      going = read_is_going g.P.LocalPacket.plain g.S.Source.state g.K.Sink.state c.args.self.now c.requires.want g.P.LocalPacket.fits _ _ c.read_packet.ensures.store.same
+          c.requires.stands c.requires.family;
+    }
+
+pub run_short-requires-in-NoRoom : goal.run_short-requires-in-NoRoom
+run_short-requires-in-NoRoom g c =
     record {
       going = read_is_going g.P.LocalPacket.plain g.S.Source.state g.K.Sink.state c.args.self.now c.requires.want g.P.LocalPacket.fits _ _ c.read_packet.ensures.store.same
           c.requires.stands c.requires.family;
@@ -114,9 +121,22 @@ pub returns-in-NoMemory-clause-stepped : goal.returns-in-NoMemory-clause-stepped
 returns-in-NoMemory-clause-stepped g c =
     none_taken g.P.LocalPacket.plain g.S.Source.state g.K.Sink.state c.args.self.now c.requires.want c.in-FromSource.source c.in-FromSource.block c.in-FromSource.limit c.in-FromSource.left c.in-FromSource.is
     c.read_packet.new.source c.run_short.new.self (g.P.Store.Stash.state c.args.s.now) (g.P.Store.Stash.state c.read_packet.new.s) (g.P.Store.Stash.state c.run_short.new.s) c.run_short.ensures.store
-    c.in-NoMemory.ensures.reads c.read_packet.ensures.store c.run_short.ensures.same c.run_short.ensures.went.took c.run_short.ensures.went.is c.run_short.ensures.short
+    _ c.in-NoMemory.ensures.reads refl c.read_packet.ensures.store.more (λ some. c.in-NoMemory.ensures.drawn)
+    c.run_short.ensures.same c.run_short.ensures.went.took c.run_short.ensures.went.is c.run_short.ensures.short
 
 pub returns-in-NoMemory-clause-family : goal.returns-in-NoMemory-clause-family
 returns-in-NoMemory-clause-family g c =
     read_fits g.P.LocalPacket.fits _ _ c.args.self.now c.run_short.new.self (ap (λ (strand : Strand g.row.P.Denot g.row.S.Denot g.row.K.Denot). strand.kept) c.run_short.ensures.same)
     c.read_packet.ensures.store.same c.run_short.ensures.went.fitting c.requires.family
+
+pub returns-in-NoRoom-clause-stepped : goal.returns-in-NoRoom-clause-stepped
+returns-in-NoRoom-clause-stepped g c =
+    none_taken g.P.LocalPacket.plain g.S.Source.state g.K.Sink.state c.args.self.now c.requires.want c.in-FromSource.source c.in-FromSource.block c.in-FromSource.limit c.in-FromSource.left c.in-FromSource.is
+    c.read_packet.new.source c.run_short-in-NoRoom.new.self (g.P.Store.Stash.state c.args.s.now) (g.P.Store.Stash.state c.read_packet.new.s) (g.P.Store.Stash.state c.run_short-in-NoRoom.new.s) c.run_short-in-NoRoom.ensures.store
+    _ c.in-NoRoom.ensures.reads refl c.read_packet.ensures.store.more (λ some. let none = ap length c.in-NoRoom.ensures.reads.are in absurd (omega (arith, some, none)))
+    c.run_short-in-NoRoom.ensures.same c.run_short-in-NoRoom.ensures.went.took c.run_short-in-NoRoom.ensures.went.is c.run_short-in-NoRoom.ensures.short
+
+pub returns-in-NoRoom-clause-family : goal.returns-in-NoRoom-clause-family
+returns-in-NoRoom-clause-family g c =
+    read_fits g.P.LocalPacket.fits _ _ c.args.self.now c.run_short-in-NoRoom.new.self (ap (λ (strand : Strand g.row.P.Denot g.row.S.Denot g.row.K.Denot). strand.kept) c.run_short-in-NoRoom.ensures.same)
+    c.read_packet.ensures.store.same c.run_short-in-NoRoom.ensures.went.fitting c.requires.family
