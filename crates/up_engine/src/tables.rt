@@ -4,9 +4,7 @@ ghost use Rattle.std.specs.List.{Contains};
 ghost use Rattle.up_engine.specs.Joins.{filler_of};
 ghost use Rattle.up_engine.specs.Parts.{AreApart};
 ghost use Rattle.up_engine.specs.Tables.{AreEmptyLanes, IsEmptyLane};
-ghost use Rattle.up_model.specs.Inputs.{passes_at};
 ghost use Rattle.up_model.specs.Plans as plans;
-ghost use Rattle.up_model.specs.Plans.{is_fed};
 ghost use Rattle.up_model.specs.WellFormed.{IsWellFormed};
 ghost use Rattle.up_plan.specs.Plan.{plan_of};
 ghost use Rattle.up_pump.specs.Pumps.{pump_at};
@@ -140,7 +138,7 @@ pub(crate) fn lanes_of<P>(
 fn lane_of<P>(alloc: Global, graph: &Graph, head: u16) -> Result<Option<LocalLane<P>>, NoMemory>
     requires well_formed { IsWellFormed graph.now.pipes }
     requires place { head < length graph.now.pipes }
-    ensures { IfOk result (IsEmptyLane (passes_at is_fed graph.now.pipes head)) }
+    ensures { IfOk result (IsEmptyLane graph.now.pipes head) }
 {
     let pipe = graph.pipes.at(usize::from(head));
     if pipe.kind.is_source() {
