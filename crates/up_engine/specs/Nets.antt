@@ -193,7 +193,7 @@ module _ {P S K : Type 0} (plain : P → PlainPacket) (reads : S → SourceState
     pub done : turn ≡ Done → IsOver after pipes
 
   -- it went on until nothing was to be done
-  pub record RanOut {F : Type 0} (net : Net P S K) (old new : StoreState F) : Type 0 where
+  pub record RanToEnd {F : Type 0} (net : Net P S K) (old new : StoreState F) : Type 0 where
     pub went : Went net old new
     pub over : IsOver net pipes
 
