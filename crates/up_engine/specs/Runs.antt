@@ -6,7 +6,7 @@ use Rattle.std.specs.List.{Contains, filter}
 use Rattle.std.specs.Option.{option_map_or}
 use Rattle.up_base.specs.Lists.{IsPrefix}
 use Rattle.up_engine.specs.Counting.{RoseBy}
-use Rattle.up_engine.specs.Entries.{KeepsOtherPaths, KeepsPathsOf, entries_at, entry_at, path_places}
+use Rattle.up_engine.specs.Entries.{KeepsOtherPaths, KeepsPathsOf, entries_at, entry_at, path_places, side_of}
 use Rattle.up_engine.specs.declared.run_outcome.RunOutcome.{RunOutcome}
 use Rattle.up_engine.specs.declared.run_outcome.RunOutcome.TheVariants.{Ended, NoMemory}
 use Rattle.up_model.specs.Ends.{is_sink, is_source, path_of}
@@ -28,6 +28,8 @@ use Rattle.up_outside.specs.States.{DepotState}
 use Rattle.up_outside.specs.Told.{Then}
 use Rattle.up_outside.specs.declared.asked.Mark.{Mark}
 use Rattle.up_outside.specs.declared.asked.Mark.TheVariants as marks
+use Rattle.up_outside.specs.declared.asked.Side.{Side}
+use Rattle.up_outside.specs.declared.asked.Side.TheVariants as sides
 use Rattle.up_shape.specs.Stores.{StoreState}
 
 -- a read fault, a write fault
@@ -148,10 +150,14 @@ module _ (pipes : List Pipe) (ways : Ways) where
         (filter (passes_at ends_at_source pipes) (places pipes)))
         ≤ store_after.drawn
 
--- the fault of a pipe whose open or close was refused
+-- the fault of a pipe whose open or close was refused, by its side; one that has none is opened
+-- nowhere, and is broken as all others are
+abbrev pub fault_on : Side → Outcome
+fault_on sides.Source = outcomes.ReadFault
+fault_on sides.Sink = outcomes.WriteFault
+
 abbrev pub fault_of : Kind → Outcome
-fault_of (Source path form limit) = outcomes.ReadFault
-fault_of kind = outcomes.WriteFault
+fault_of kind = option_map_or fault_on (side_of kind) outcomes.Broken
 
 module _ (pipes : List Pipe) (place count : ℕ) (shut : ℕ → Bool) where
   -- the open at the place was refused, when so many others had been opened: that pipe has a fault,

@@ -150,8 +150,10 @@ not_long : (pipes : List Pipe) (refused count : ℕ) (shut : ℕ → Bool) (plac
     → ending_refused pipes refused count shut place ≡ TooLong limit → ⊥
 not_long pipes refused count shut place limit pipe at (Source path form most) is long =
     neither _ ReadFault Broken (TooLong limit) (λ same. cc) (λ same. cc) (rw (at, is) at long)
-not_long pipes refused count shut place limit pipe at kind is long =
+not_long pipes refused count shut place limit pipe at (Sink path form) is long =
     neither _ WriteFault Broken (TooLong limit) (λ same. cc) (λ same. cc) (rw (at, is) at long)
+not_long pipes refused count shut place limit pipe at kind is long =
+    neither _ Broken Broken (TooLong limit) (λ same. cc) (λ same. cc) (rw (at, is) at long)
 
 -- what passes is counted
 some_counted : {X : Type 0} (test : X → Bool) (xs : List X) (x : X) → Contains xs x → test x ≡ true → 0 < count_by test xs

@@ -1,11 +1,12 @@
 -- The run of a graph file, by its text and by what the run of its graph did.
 use Rattle.std.proofs.Common.{◌≡◌, ◌⊎◌, ℕ, ◌<◌, ◌≤◌, ◌==◌, ◌||◌, List, length, map, not, Bool, true, false, Option, Some, None, IfSome, Ok, Err, inl, inr, slice_get, get_or, cond, refl, sym, ap, subst, ◌∙◌, arith}
 use Rattle.std.specs.List.{All, filter}
-use Rattle.std.specs.Option.{option_map_or}
+use Rattle.std.specs.Option.{is_some, option_map_or}
 use Rattle.std.proofs.lemmas.Bool.{eq-eqb}
-use Rattle.std.proofs.lemmas.List.Elements.{All-append, All-get_or, All-weaker, filter_passes}
+use Rattle.std.proofs.lemmas.List.Elements.{All-append, All-weaker, filter_passes}
 use Rattle.std.proofs.lemmas.Option.{get_or_from_slice_get, slice_get_within}
 use Rattle.up_base.specs.declared.refusal.Refusal.TheVariants as reads
+use Rattle.up_engine.proofs.PathPlaces.{HasPathAt, path_place_stands}
 use Rattle.up_engine.specs.Entries as of_pipes
 use Rattle.up_engine.specs.Runs.{Ways, ending, ending_refused, RanThrough, StoppedThere, RanGraph}
 use Rattle.up_engine.specs.declared.run_outcome.RunOutcome.{RunOutcome}
@@ -15,14 +16,14 @@ use Rattle.up_graph.specs.Graph.{graph_of}
 use Rattle.up_graph.specs.declared.graph_refused.GraphRefused.TheVariants as refusals
 use Rattle.up_graph.specs.declared.graph_refused.GraphRefused.{GraphRefused}
 use Rattle.up_model.proofs.Members.{passes_within}
-use Rattle.up_model.proofs.WellFormed.{there}
+use Rattle.up_model.specs.Ends.{path_of}
 use Rattle.up_model.specs.Inputs.{PipeTest, ends_at_source, passes_at, places}
 use Rattle.up_model.specs.Outcomes.{deciding, is_cause}
 use Rattle.up_model.specs.Plans.{ends_at_sink}
 use Rattle.up_model.specs.WellFormed.{IsWellFormed}
 use Rattle.up_model.specs.declared.graph.Graph.{Graph}
 use Rattle.up_model.specs.declared.kind.Kind.{Kind}
-use Rattle.up_model.specs.declared.kind.Kind.TheVariants.{Source}
+use Rattle.up_model.specs.declared.kind.Kind.TheVariants.{Source, Sink}
 use Rattle.up_model.specs.declared.outcome.Outcome.{Outcome}
 use Rattle.up_model.specs.declared.outcome.Outcome.TheVariants as outcomes
 use Rattle.up_model.specs.declared.pipe.Pipe.{Pipe}
@@ -85,13 +86,14 @@ module _ (path : List ℕ) (old new : DepotState) where
 
 -- the pipe whose open was refused has a cause
 fault_is_cause : (pipes : List Pipe) (place count : ℕ) (shut : ℕ → Bool) (pipe : Pipe) → slice_get pipes place ≡ Some pipe → (kind : Kind) → pipe.kind ≡ kind
-    → is_cause (ending_refused pipes place count shut place) ≡ true
-fault_is_cause pipes place count shut pipe at (Source path form limit) is =
+    → is_some (path_of kind) ≡ true → is_cause (ending_refused pipes place count shut place) ≡ true
+fault_is_cause pipes place count shut pipe at (Source path form limit) is has_path =
     let same : (place == place) ≡ true = eq-eqb place place refl in
     rw (at, same, is) refl
-fault_is_cause pipes place count shut pipe at kind is =
+fault_is_cause pipes place count shut pipe at (Sink path form) is has_path =
     let same : (place == place) ≡ true = eq-eqb place place refl in
     rw (at, same, is) refl
+fault_is_cause pipes place count shut pipe at kind is has_path = absurd (cc)
 
 module _ (pipes : List Pipe) where
   within_all : (test : PipeTest) → All (λ place. place < length pipes) (filter (passes_at test pipes) (places pipes))
@@ -102,10 +104,10 @@ module _ (pipes : List Pipe) where
   pub paths_within : All (λ place. place < length pipes) (of_pipes.path_places pipes)
   paths_within = All-append (λ place. place < length pipes) _ _ (within_all ends_at_source) (within_all ends_at_sink)
 
-  place_within : (place count : ℕ) → slice_get (of_pipes.path_places pipes) count ≡ Some place → place < length pipes
-  place_within place count at =
-      let found = All-get_or (λ place. place < length pipes) (of_pipes.path_places pipes) count 0 (slice_get_within (of_pipes.path_places pipes) count place at) paths_within in
-      subst (λ (n : ℕ). n < length pipes) (get_or_from_slice_get (of_pipes.path_places pipes) count place 0 at) found
+  refused_has_path : (place count : ℕ) → slice_get (of_pipes.path_places pipes) count ≡ Some place → HasPathAt pipes place
+  refused_has_path place count at =
+      subst (HasPathAt pipes) (get_or_from_slice_get (of_pipes.path_places pipes) count place 0 at)
+      (path_place_stands pipes count (slice_get_within (of_pipes.path_places pipes) count place at))
 
 -- the endings of pipes whose run stopped at a refused open, or went through, are told of each
 module _ {F : Type 0} (pipes : List Pipe) (old new : DepotState) (drew draws : StoreState F) where
@@ -123,9 +125,9 @@ module _ {F : Type 0} (pipes : List Pipe) (old new : DepotState) (drew draws : S
       let of = ending_refused pipes place count shut in
       let each = ap length stopped.endings ∙ each_told pipes of in
       let none = none_decides pipes ends each whole in
-      let pipe = there pipes place (place_within pipes place count stopped.at) in
-      let clean = no_cause pipes of (rw stopped.endings at none) place pipe.0 pipe.1 in
-      let cause : is_cause (of place) ≡ true = fault_is_cause pipes place count shut pipe.0 pipe.1 pipe.0.kind refl in
+      let refused = refused_has_path pipes place count stopped.at in
+      let clean = no_cause pipes of (rw stopped.endings at none) place refused.pipe refused.there in
+      let cause : is_cause (of place) ≡ true = fault_is_cause pipes place count shut refused.pipe refused.there refused.pipe.kind refl refused.has_path in
       absurd (let wrong : true ≡ false = sym cause ∙ clean in cc)
 
   left_whole : (ways : Ways) (ends : List Outcome) (tallies : List Tally) → RanThrough pipes ways old new drew draws ends tallies
