@@ -10,7 +10,7 @@ use Rattle.up_engine.proofs.LeftOpen.{LeftOpen, left_alone, left_carried, place_
 use Rattle.up_engine.proofs.Opened.{still}
 use Rattle.up_engine.proofs.OpenedAndClosed.{can_close}
 use Rattle.up_engine.proofs.PathPlaces.{path_place_stands}
-use Rattle.up_engine.proofs.StoppedAtRefusal.{shut, stopped_there}
+use Rattle.up_engine.proofs.StoppedAtRefusal.{stopped_there}
 use Rattle.up_engine.proofs.StoppedShort.{stopped_short}
 use Rattle.up_engine.proofs.WentThrough.{went_through}
 use Rattle.up_engine.specs.Carried.{CarriedBy, CarriedShort}
@@ -153,13 +153,9 @@ module _ {S K : Type 0} (reads : S → SourceState) (writes : K → SinkState) (
         record {
           others = others_closed reads writes pipes old mid new (Refused place) opened opened ended.after rooms.results.outcomes.items ended.ends opens
               (left_alone reads writes pipes opens.count opened opens.there) closes;
-          to = subst (RanTo pipes old new store_before store_after) (sym ended.answer) (inr (
-            place,
-            opens.count,
-            shut reads writes pipes old mid new place pipe is opened ended.after rooms.results.outcomes.items ended.ends opens closes are,
-            stopped_there reads writes pipes old mid new place pipe is opened ended.after rooms.results.outcomes.items ended.ends opens closes are
-                well rooms.results.tallies.items none,
-          ));
+          to = subst (RanTo pipes old new store_before store_after) (sym ended.answer) (inr
+              (stopped_there reads writes pipes old mid new place pipe is opened ended.after rooms.results.outcomes.items ended.ends opens closes are
+              well rooms.results.tallies.items none));
         }
 
     -- memory ran out while paths were opened

@@ -85,15 +85,15 @@ module _ (path : List ℕ) (old new : DepotState) where
   causes_ran pipes runs.NoMemory ran = inr ran
 
 -- the pipe whose open was refused has a cause
-fault_is_cause : (pipes : List Pipe) (place count : ℕ) (shut : ℕ → Bool) (pipe : Pipe) → slice_get pipes place ≡ Some pipe → (kind : Kind) → pipe.kind ≡ kind
-    → is_some (path_of kind) ≡ true → is_cause (ending_refused pipes place count shut place) ≡ true
-fault_is_cause pipes place count shut pipe at (Source path form limit) is has_path =
+fault_is_cause : (pipes : List Pipe) (place : ℕ) (shut : ℕ → Bool) (pipe : Pipe) → slice_get pipes place ≡ Some pipe → (kind : Kind) → pipe.kind ≡ kind
+    → is_some (path_of kind) ≡ true → is_cause (ending_refused pipes place shut place) ≡ true
+fault_is_cause pipes place shut pipe at (Source path form limit) is has_path =
     let same : (place == place) ≡ true = eq-eqb place place refl in
     rw (at, same, is) refl
-fault_is_cause pipes place count shut pipe at (Sink path form) is has_path =
+fault_is_cause pipes place shut pipe at (Sink path form) is has_path =
     let same : (place == place) ≡ true = eq-eqb place place refl in
     rw (at, same, is) refl
-fault_is_cause pipes place count shut pipe at kind is has_path = absurd (cc)
+fault_is_cause pipes place shut pipe at kind is has_path = absurd (cc)
 
 module _ (pipes : List Pipe) where
   within_all : (test : PipeTest) → All (λ place. place < length pipes) (filter (passes_at test pipes) (places pipes))
@@ -115,19 +115,20 @@ module _ {F : Type 0} (pipes : List Pipe) (old new : DepotState) (drew draws : S
   tells_of_each runs.NoMemory ran = tt
   tells_of_each (runs.Ended ends tallies) ran = elim ran.to [
     | inl (ways, through) ↦ ap length through.endings ∙ each_told pipes (ending pipes ways)
-    | inr (place, count, shut, stopped) ↦ ap length stopped.endings ∙ each_told pipes (ending_refused pipes place count shut)
+    | inr stopped ↦ ap length stopped.endings ∙ each_told pipes (ending_refused pipes stopped.place stopped.shut)
   ]
 
   -- a refused open is a cause
-  refused_told : (place count : ℕ) (shut : ℕ → Bool) (ends : List Outcome) (tallies : List Tally)
-      → StoppedThere pipes place count shut old new ends tallies → ending_told pipes ends (deciding ends) ≡ endings.Whole → ⊥
-  refused_told place count shut ends tallies stopped whole =
-      let of = ending_refused pipes place count shut in
+  refused_told : (ends : List Outcome) (tallies : List Tally) → StoppedThere pipes old new ends tallies
+      → ending_told pipes ends (deciding ends) ≡ endings.Whole → ⊥
+  refused_told ends tallies stopped whole =
+      let place = stopped.place in
+      let of = ending_refused pipes place stopped.shut in
       let each = ap length stopped.endings ∙ each_told pipes of in
       let none = none_decides pipes ends each whole in
-      let refused = refused_has_path pipes place count stopped.at in
+      let refused = refused_has_path pipes place stopped.count stopped.at in
       let clean = no_cause pipes of (rw stopped.endings at none) place refused.pipe refused.there in
-      let cause : is_cause (of place) ≡ true = fault_is_cause pipes place count shut refused.pipe refused.there refused.pipe.kind refl refused.has_path in
+      let cause : is_cause (of place) ≡ true = fault_is_cause pipes place stopped.shut refused.pipe refused.there refused.pipe.kind refl refused.has_path in
       absurd (let wrong : true ≡ false = sym cause ∙ clean in cc)
 
   left_whole : (ways : Ways) (ends : List Outcome) (tallies : List Tally) → RanThrough pipes ways old new drew draws ends tallies
@@ -149,7 +150,7 @@ module _ {F : Type 0} (pipes : List Pipe) (old new : DepotState) (drew draws : S
   whole_through runs.NoMemory ran whole = absurd (cc)
   whole_through (runs.Ended ends tallies) ran whole = elim ran.to [
     | inl (ways, through) ↦ record { ways = ways; ends = ends; tallies = tallies; through = through }
-    | inr (place, count, shut, stopped) ↦ absurd (refused_told place count shut ends tallies stopped whole)
+    | inr stopped ↦ absurd (refused_told ends tallies stopped whole)
   ]
 
   -- and left the whole output
@@ -158,7 +159,7 @@ module _ {F : Type 0} (pipes : List Pipe) (old new : DepotState) (drew draws : S
   ran_whole runs.NoMemory ran whole = absurd (cc)
   ran_whole (runs.Ended ends tallies) ran whole = elim ran.to [
     | inl (ways, through) ↦ left_whole ways ends tallies through whole
-    | inr (place, count, shut, stopped) ↦ absurd (refused_told place count shut ends tallies stopped whole)
+    | inr stopped ↦ absurd (refused_told ends tallies stopped whole)
   ]
 
 -- the text that was read has this graph
