@@ -1,6 +1,6 @@
 -- A run of a graph, by where its opening stopped.
 use Rattle.std.specs.Prelude.{OnOk}
-use Rattle.std.proofs.Common.{◌≡◌, ℕ, ◌<◌, List, length, map, set, take, drop, get_or, replicate, true, false, Option, Some, None, IfSome, Result, Ok, Err, slice_get, refl, sym, ap, ◌∙◌, subst, arith, append-nil, inl, inr}
+use Rattle.std.proofs.Common.{◌≡◌, ℕ, ◌<◌, List, length, set, drop, get_or, replicate, true, false, Some, IfSome, Result, Ok, Err, slice_get, refl, sym, ap, ◌∙◌, subst, arith, append-nil, inl, inr}
 use Rattle.std.proofs.lemmas.List.{get_or-replicate, length-replicate}
 use Rattle.std.proofs.lemmas.Option.{same_Some, slice_get-get_or, slice_get_within}
 use Rattle.up_base.specs.declared.refusal.NoMemory.{NoMemory as NoMemoryFound}
@@ -15,14 +15,13 @@ use Rattle.up_engine.proofs.StoppedShort.{stopped_short}
 use Rattle.up_engine.proofs.WentThrough.{went_through}
 use Rattle.up_engine.specs.Carried.{CarriedBy, CarriedShort}
 use Rattle.up_engine.specs.Entries.{KeepsOtherPaths, KeepsPathsOf, path_places}
-use Rattle.up_engine.specs.Objects.{AreOpen, AreThere, Closes, Opens, StandsAt, object_at}
+use Rattle.up_engine.specs.Objects.{AreOpen, AreThere, Closes, Opens, object_at}
 use Rattle.up_engine.specs.Rooms.{EndsRun, answer_of}
 use Rattle.up_engine.specs.Runs.{RanGraph, RanTo, Ways, fault_of}
 use Rattle.up_engine.specs.declared.object.Object.{Object}
 use Rattle.up_engine.specs.declared.object.Object.TheVariants as objects
 use Rattle.up_engine.specs.declared.opening.Opening.{Opening}
 use Rattle.up_engine.specs.declared.opening.Opening.TheVariants.{All, Refused, NoMemory}
-use Rattle.up_engine.specs.declared.results.Results.{Results}
 use Rattle.up_engine.specs.declared.rooms.Rooms.{Rooms}
 use Rattle.up_engine.specs.declared.run_outcome.RunOutcome.{RunOutcome}
 use Rattle.up_engine.specs.declared.run_outcome.RunOutcome.TheVariants as answers

@@ -43,7 +43,6 @@ pub fn run_one_thread<P: LocalPacket, D: Depot>(
     }
 }
 
-/// Runs the graph in room that was taken beforehand.
 fn run_in<P: LocalPacket, D: Depot>(
     alloc: Global,
     graph: &Graph,
@@ -107,7 +106,6 @@ fn carry_all<P: LocalPacket, S: Source, K: Sink>(
     Ok(())
 }
 
-/// Closes what is open, and answers.
 fn end_run<D: Depot>(
     graph: &Graph,
     depot: &mut D,

@@ -65,6 +65,7 @@ impl<P: LocalPacket, S: Source, K: Sink> Net<P, S, K> {
         'reads: while self.run_to_read(s) {
             ahead = ahead.lowered();
         }
+        // It shows that the loop ends, and nothing looks at what is left of it.
         let _ = ahead;
     }
 
@@ -106,7 +107,6 @@ impl<P: LocalPacket, S: Source, K: Sink> Net<P, S, K> {
         }
     }
 
-    /// One step of a strand that is due.
     fn step(&mut self, i: usize, s: &mut P::Store) -> Turn
         requires within { i < length self.old.strands.items }
         requires due { is_due_at self.old.pumps.pumps i ≡ true }

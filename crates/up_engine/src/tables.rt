@@ -17,7 +17,6 @@ use up_plan::Plan;
 use up_pump::Loop;
 use up_queue::LocalLane;
 
-/// The places of the heads of all strands.
 pub(crate) fn heads_of(alloc: Global, plan: &Plan) -> Result<Vec<u16>, NoMemory>
     ensures { IfOk result (λ heads. heads.items ≡ map (λ strand. strand.head) plan.now.strands) }
 {
@@ -84,7 +83,6 @@ fn filler_of(graph: &Graph, plan: &Plan, head: u16) -> usize
     0
 }
 
-/// Whether the place is one of these.
 fn has_place(places: &PlaceList, place: u16) -> bool
     ensures { IsTrue result ↔ Contains places.now place }
 {
