@@ -87,24 +87,24 @@ module _ {S K : Type 0} (reads : S → SourceState) (writes : K → SinkState) (
     pub begins_with : BeginsWith reads writes pipes table head (beginning reads writes pipes table head)
     begins_with = record { told = told; begins = refl; sinks = told_is }
 
-    first_back_of : (place : ℕ) (pipe : Pipe) (object : Object S K) → Contains (strand_of pipes head) place → slice_get pipes place ≡ Some pipe
+    first_back_of : IsWellFormed pipes → (place : ℕ) (pipe : Pipe) (object : Object S K) → Contains (strand_of pipes head) place → slice_get pipes place ≡ Some pipe
         → object_at table place ≡ object → IsEndOf pipe.kind object → IsBack reads writes pipes (beginning reads writes pipes table head) place pipe object
-    first_back_of place pipe objects.None has there stands end = end
-    first_back_of place pipe (objects.Source s) has there stands end =
+    first_back_of well place pipe objects.None has there stands end = end
+    first_back_of well place pipe (objects.Source s) has there stands end =
         let own = (strand_of_head pipes head is_head).one_source place has (source_passes pipes place pipe there end) in
         let source : source_told reads writes pipes (object_at table head) ≡ Some (reads s) = ap (λ (p : ℕ). source_told reads writes pipes (object_at table p)) (sym own) ∙ ap (source_told reads writes pipes) stands in
         (own, end, subst (λ (from : Option SourceState). SourceEnds (begun pipes head from told) (reads s)) (sym source) (source_unread pipes head told (reads s)))
-    first_back_of place pipe (objects.Sink k) has there stands end =
+    first_back_of well place pipe (objects.Sink k) has there stands end =
         let sink = filter_has (passes_at ends_at_sink pipes) (strand_of pipes head) place has (is_sink_there pipes place pipe there ∙ end) in (
           end,
           subst (SinkEnds (beginning reads writes pipes table head) place pipe) (told_is place k sink stands)
-              (sink_ungiven pipes head (source_told reads writes pipes (object_at table head)) told place pipe),
+              (sink_ungiven pipes well head (source_told reads writes pipes (object_at table head)) told place pipe),
         )
 
     -- what was opened is as the strand left it, which did nothing
-    pub first_back : (place : ℕ) (pipe : Pipe) → Contains (strand_of pipes head) place → slice_get pipes place ≡ Some pipe
+    pub first_back : IsWellFormed pipes → (place : ℕ) (pipe : Pipe) → Contains (strand_of pipes head) place → slice_get pipes place ≡ Some pipe
         → IsBack reads writes pipes (beginning reads writes pipes table head) place pipe (object_at table place)
-    first_back place pipe has there = first_back_of place pipe (object_at table place) has there refl (ends place pipe has there)
+    first_back well place pipe has there = first_back_of well place pipe (object_at table place) has there refl (ends place pipe has there)
 
   -- a strand begins alike with tables in which the same stands for it
   pub same_beginning : (other : List (Object S K)) (head : ℕ) → Contains (strand_of pipes head) head
@@ -128,21 +128,21 @@ module _ {S K : Type 0} (reads : S → SourceState) (writes : K → SinkState) (
         subst (IsEndOf pipe.kind) (sym (taken.same count place (omega arith) within has)) (all_have_ends opened place pipe there)
 
     -- where the last strands weren't made, what was opened for them is back
-    pub rest_back : (count : ℕ) (now : List (Object S K)) → AreTakenOf pipes count table now
+    pub rest_back : IsWellFormed pipes → (count : ℕ) (now : List (Object S K)) → AreTakenOf pipes count table now
         → AreBackFrom reads writes pipes count (beginning reads writes pipes table) now
-    rest_back count now taken = record {
+    rest_back well count now taken = record {
       size = taken.size ∙ opened.size;
       none = taken.none;
       back = λ i place pipe from below has there.
           subst (IsBack reads writes pipes (beginning reads writes pipes table (head_at pipes i)) place pipe) (sym (taken.same i place from below has))
-          (first_back (head_at pipes i) (head_there pipes i below) (head_ends (head_at pipes i)) place pipe has there);
+          (first_back (head_at pipes i) (head_there pipes i below) (head_ends (head_at pipes i)) well place pipe has there);
     }
 
     pub none_made : AreTakenOf pipes 0 table table
     none_made = record { size = refl; none = λ i below. absurd (omega (arith, below)); same = λ i place from below has. refl }
 
-    pub untouched : AreBack reads writes pipes (beginning reads writes pipes table) table
-    untouched = all_back pipes reads writes (beginning reads writes pipes table) table (rest_back 0 table none_made)
+    pub untouched : IsWellFormed pipes → AreBack reads writes pipes (beginning reads writes pipes table) table
+    untouched well = all_back pipes reads writes (beginning reads writes pipes table) table (rest_back well 0 table none_made)
 
   -- where all strands were made nothing is left in the table
   pub all_taken : IsWellFormed pipes → length table ≡ length pipes → (now : List (Object S K)) → AreTakenOf pipes (length (heads pipes)) table now → AreThere reads writes pipes 0 now

@@ -10,7 +10,7 @@ use Rattle.up_engine.proofs.ToldEnds.{NoneShort, ways_of}
 use Rattle.up_engine.specs.Carried.{CarriedShort, CarriedThrough, NoneIsShort}
 use Rattle.up_engine.specs.Entries.{path_places}
 use Rattle.up_engine.specs.Making.{AllBegin, AreBack, AreTold}
-use Rattle.up_engine.specs.Nets.{RanOut}
+use Rattle.up_engine.specs.Nets.{RanToEnd}
 use Rattle.up_engine.specs.Objects.{AreThere}
 use Rattle.up_engine.specs.declared.net.Net.{Net}
 use Rattle.up_engine.specs.declared.object.Object.{Object}
@@ -39,7 +39,7 @@ module _ {S K : Type 0} (reads : S → SourceState) (writes : K → SinkState) (
       carried_short reads writes pipes well before after there past past begins (λ head. record { source = refl; sinks = refl }) back (λ lane. [])
       (begun_joined reads writes pipes before past begins) (begun_within reads writes pipes before past begins)
 
-  module _ {P F : Type 0} (plain : P → PlainPacket) (net : Net P S K) (made ran : StoreState F) (run : RanOut plain reads writes pipes past net made ran)
+  module _ {P F : Type 0} (plain : P → PlainPacket) (net : Net P S K) (made ran : StoreState F) (run : RanToEnd plain reads writes pipes past net made ran)
       (back : AreBack reads writes pipes run.went.now after) where
     pub net_short : CarriedShort reads writes pipes before after
     net_short =

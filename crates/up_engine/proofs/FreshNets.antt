@@ -1,5 +1,5 @@
 -- A net whose strands were all made and did nothing yet.
-use Rattle.std.proofs.Common.{◌≡◌, ℕ, ◌+◌, ◌<◌, List, [], ◌∷◌, length, map, get_or, All, Bool, true, false, is_some, Option, Some, None, refl, sym, ap, ◌∙◌, subst, arith, inl, inr}
+use Rattle.std.proofs.Common.{◌≡◌, ℕ, ◌+◌, ◌<◌, List, [], ◌∷◌, length, map, get_or, All, true, false, is_some, Option, Some, None, refl, sym, ap, ◌∙◌, subst, arith, inl, inr}
 use Rattle.std.specs.Option.{option_map_or}
 use Rattle.std.specs.Vec.{vec_capacity}
 use Rattle.std.specs.List.{Contains}
@@ -17,7 +17,7 @@ use Rattle.up_engine.specs.Tables.{AreEmptyLanes, HasTables, IsEmptyLane}
 use Rattle.up_engine.specs.declared.net.Net.{Net}
 use Rattle.up_engine.specs.declared.object.Object.{Object}
 use Rattle.up_model.specs.Inputs.{passes_at}
-use Rattle.up_model.specs.Plans.{heads, is_fed}
+use Rattle.up_model.specs.Plans.{heads, is_fed, lane_length}
 use Rattle.up_model.specs.WellFormed.{IsWellFormed}
 use Rattle.up_model.specs.declared.pipe.Pipe.{Pipe}
 use Rattle.up_model.specs.declared.plain_packet.PlainPacket.{PlainPacket}
@@ -51,25 +51,25 @@ pub planned_apart : (pipes : List Pipe) (own : List ℕ) → own ≡ heads pipes
 planned_apart pipes own are = subst AreApart (sym are) (heads_apart pipes)
 
 module _ {P : Type 0} (pipes : List Pipe) (own : List ℕ) (lanes : List (Option (Lane P))) (empty : AreEmptyLanes pipes own (length own) lanes) where
-  none_waits_in : (fed : Bool) (lane : Option (Lane P)) → IsEmptyLane fed lane → option_map_or (λ (lane : Lane P). lane.items) lane [] ≡ []
-  none_waits_in fed None is = refl
-  none_waits_in fed (Some lane) is = is.2
+  none_waits_in : (head : ℕ) (lane : Option (Lane P)) → IsEmptyLane pipes head lane → option_map_or (λ (lane : Lane P). lane.items) lane [] ≡ []
+  none_waits_in head None is = refl
+  none_waits_in head (Some lane) is = is.2
 
   -- nothing waits in any lane
   pub nothing_waits : (i : ℕ) → items_at lanes i ≡ []
   nothing_waits i = elim (cases_lt i (length own)) [
-    | inl below ↦ none_waits_in (passes_at is_fed pipes (get_or own i 0)) (get_or lanes i None) (empty.each i below)
+    | inl below ↦ none_waits_in (get_or own i 0) (get_or lanes i None) (empty.each i below)
     | inr past ↦ ap (λ (lane : Option (Lane P)). option_map_or (λ (lane : Lane P). lane.items) lane []) (get_or_past lanes i None (let size = empty.size in omega (arith, past, size)))
   ]
 
-  lane_where_fed : (fed : Bool) (lane : Option (Lane P)) → IsEmptyLane fed lane → is_some lane ≡ fed
-  lane_where_fed fed None is = sym is
-  lane_where_fed fed (Some lane) is = sym is.0
+  lane_where_fed : (head : ℕ) (lane : Option (Lane P)) → IsEmptyLane pipes head lane → is_some lane ≡ passes_at is_fed pipes head
+  lane_where_fed head None is = sym is
+  lane_where_fed head (Some lane) is = sym is.0
 
   pub lanes_there : (i : ℕ) → i < length own → is_some (get_or lanes i None) ≡ passes_at is_fed pipes (get_or own i 0)
-  lanes_there i below = lane_where_fed (passes_at is_fed pipes (get_or own i 0)) (get_or lanes i None) (empty.each i below)
+  lanes_there i below = lane_where_fed (get_or own i 0) (get_or lanes i None) (empty.each i below)
 
-  pub lanes_have_room : (i : ℕ) (lane : Lane P) → get_or lanes i None ≡ Some lane → 0 < lane.cap
+  pub lanes_have_room : (i : ℕ) (lane : Lane P) → get_or lanes i None ≡ Some lane → lane.cap ≡ lane_length pipes (get_or own i 0)
   lanes_have_room i lane is = elim (cases_lt i (length own)) [
     | inl below ↦ let here = rw is at (empty.each i below) in here.1
     | inr past ↦ absurd (let none : None ≡ Some lane = sym (get_or_past lanes i None (let size = empty.size in omega (arith, past, size))) ∙ is in cc)

@@ -1,15 +1,12 @@
 -- What lies at the paths of a graph once all is closed, by what was opened there and what was carried in between.
 use Rattle.std.specs.Io.KnownBytes.{Appends}
-use Rattle.std.specs.Prelude.{option_and_then, unwrap_or}
-use Rattle.std.proofs.Common.{◌≡◌, ℕ, ◌+◌, ◌-◌, ◌^◌, ◌<◌, ◌≤◌, min, List, [], ◌++◌, length, map, take, drop, get_or, Bool, true, false, not, Option, Some, None, IfSome, slice_get, refl, sym, ap, ◌∙◌, subst, arith}
+use Rattle.std.proofs.Common.{◌≡◌, ℕ, ◌+◌, List, [], take, drop, true, false, Option, Some, None, IfSome, slice_get, refl, sym, ap, ◌∙◌, arith}
 use Rattle.std.specs.FinMap.{get}
-use Rattle.std.specs.List.{Contains}
 use Rattle.up_engine.proofs.LeftOpen.{LeftOpen}
 use Rattle.up_engine.proofs.OtherPaths.{keeps_behind, keeps_but_more, keeps_others, sink_passes}
-use Rattle.up_engine.proofs.PathObjects.{HasOpened, index_among, sink_pipe, source_pipe, source_stands}
-use Rattle.up_engine.specs.Counting.{RoseBy}
-use Rattle.up_engine.specs.Entries.{KeepsOtherPaths, KeepsPathsBut, KeepsPathsOf, entries_at, path_places}
-use Rattle.up_engine.specs.Objects.{AreFresh, AreOpen, Closes, IsFresh, IsStored, Opens, closed_mark, entries_refused, moved_told, object_at}
+use Rattle.up_engine.proofs.PathObjects.{HasOpened, sink_pipe, source_pipe}
+use Rattle.up_engine.specs.Entries.{KeepsOtherPaths, KeepsPathsBut, KeepsPathsOf, path_places}
+use Rattle.up_engine.specs.Objects.{Closes, IsFresh, IsStored, Opens, object_at}
 use Rattle.up_engine.specs.Runs.{held_bytes}
 use Rattle.up_engine.specs.declared.object.Object.{Object}
 use Rattle.up_engine.specs.declared.object.Object.TheVariants as objects
@@ -19,16 +16,13 @@ use Rattle.up_model.specs.Inputs.{passes_at}
 use Rattle.up_model.specs.Plans.{ends_at_sink}
 use Rattle.up_model.specs.WellFormed.{IsWellFormed}
 use Rattle.up_model.specs.declared.kind.Kind.{Kind}
-use Rattle.up_model.specs.declared.kind.Kind.TheVariants.{Source, Sink}
+use Rattle.up_model.specs.declared.kind.Kind.TheVariants.{Source}
 use Rattle.up_model.specs.declared.outcome.Outcome.{Outcome}
 use Rattle.up_model.specs.declared.pipe.Pipe.{Pipe}
-use Rattle.up_outside.proofs.Told.{Then-map, Then-trans, always, counted_from}
-use Rattle.up_outside.specs.Counts.{CountsWhere}
+use Rattle.up_outside.proofs.Told.{Then-map, Then-trans, always}
 use Rattle.up_outside.specs.Held.{Held}
 use Rattle.up_outside.specs.States.{DepotState, SourceState, SinkState}
 use Rattle.up_outside.specs.Told.{Then}
-use Rattle.up_outside.specs.declared.asked.Entry.{Entry}
-use Rattle.up_outside.specs.declared.asked.Mark.TheVariants as marks
 
 -- what is so of a told value is so in other words
 pub told_more : {X : Type 0} (P Q : X → Type 0) (a : Option X) → ((x : X) → P x → Q x) → IfSome a P → IfSome a Q

@@ -5,12 +5,15 @@ use Rattle.std.specs.Option.{option_map_or}
 use Rattle.std.proofs.KnownBytes.{Appends-nil}
 use Rattle.std.proofs.Math.Nat.{zero-div}
 use Rattle.std.proofs.lemmas.Bool.{cases_Bool}
+use Rattle.up_model.proofs.EveryKind.{lawful}
+use Rattle.up_model.proofs.WellFormed.{are_bounded}
 use Rattle.up_model.specs.Ends.{is_source}
-use Rattle.up_model.specs.Kinds.{settled_output, written_of}
+use Rattle.up_model.specs.Kinds.{IsWithinBounds, settled_output, written_of}
 use Rattle.up_model.specs.Meaning.{bytes_by, done_by, flow_by, flow_within, shared, so_far, taken_at, taken_from, work_at}
 use Rattle.up_model.specs.Outcomes.{settled_source_flow}
 use Rattle.up_model.specs.Packet.{Flow}
 use Rattle.up_model.specs.Shares.{share_by}
+use Rattle.up_model.specs.WellFormed.{IsWellFormed}
 use Rattle.up_model.specs.declared.fan_out.FanOut.{FanOut}
 use Rattle.up_model.specs.declared.fan_out.FanOut.TheVariants as fans
 use Rattle.up_model.specs.declared.form.SourceForm.TheVariants as source_forms
@@ -25,23 +28,10 @@ use Rattle.up_strand.proofs.Writes.{same_itself}
 use Rattle.up_strand.specs.History.{doing, to_head}
 use Rattle.up_strand.specs.StrandCalls.{SinkEnds, SourceEnds, begun, bytes_due}
 
-settled_none : (kind : Kind) → settled_output kind [] ≡ []
-settled_none (kinds.Source path form limit) = refl
-settled_none (kinds.Sink path form) = refl
-settled_none kinds.Idem = refl
-settled_none kinds.Null = refl
-settled_none kinds.Dup = refl
-settled_none (kinds.Skip bytes) = refl
-settled_none (kinds.DelAttr attr) = refl
-
+-- a sink writes nothing of nothing, and no other kind writes anything
 written_none : (kind : Kind) → written_of kind [] ≡ []
-written_none (kinds.Source path form limit) = refl
 written_none (kinds.Sink path sink_forms.Raw) = refl
-written_none kinds.Idem = refl
-written_none kinds.Null = refl
-written_none kinds.Dup = refl
-written_none (kinds.Skip bytes) = refl
-written_none (kinds.DelAttr attr) = refl
+written_none kind = refl
 
 share_none : (fan_out : FanOut) (select : Option ℕ) → share_by fan_out select [] ≡ []
 share_none fans.None select = refl
@@ -50,21 +40,16 @@ share_none fans.All select = refl
 share_none fans.Selected None = refl
 share_none fans.Selected (Some number) = refl
 
--- of nothing comes nothing while the flow goes on
-done_none : (place : ℕ) (kind : Kind) (taken : Flow) → taken ≡ [] → (done_by so_far place kind taken).flow ≡ []
-done_none place (kinds.Source path form limit) taken none = none
-done_none place (kinds.Sink path form) taken none = ap (settled_output (kinds.Sink path form)) none ∙ settled_none (kinds.Sink path form)
-done_none place kinds.Idem taken none = ap (settled_output kinds.Idem) none ∙ settled_none kinds.Idem
-done_none place kinds.Null taken none = ap (settled_output kinds.Null) none ∙ settled_none kinds.Null
-done_none place kinds.Dup taken none = ap (settled_output kinds.Dup) none ∙ settled_none kinds.Dup
-done_none place (kinds.Skip bytes) taken none = ap (settled_output (kinds.Skip bytes)) none ∙ settled_none (kinds.Skip bytes)
-done_none place (kinds.DelAttr attr) taken none = ap (settled_output (kinds.DelAttr attr)) none ∙ settled_none (kinds.DelAttr attr)
+-- of nothing comes nothing while the flow goes on: a source puts out what it is fed, and every kind starts with nothing
+done_none : (place : ℕ) (kind : Kind) (taken : Flow) → IsWithinBounds kind → taken ≡ [] → (done_by so_far place kind taken).flow ≡ []
+done_none place (kinds.Source path form limit) taken within none = none
+done_none place kind taken within none = ap (settled_output kind) none ∙ ((lawful kind).flows within).settles_nothing
 
 shared_none : (input : Option Pipe) (select : Option ℕ) (flow : Flow) → flow ≡ [] → shared input select flow ≡ []
 shared_none None select flow none = refl
 shared_none (Some input) select flow none = ap (shared (Some input) select) none ∙ share_none _ select
 
-module _ (pipes : List Pipe) (head : ℕ) where
+module _ (pipes : List Pipe) (well : IsWellFormed pipes) (head : ℕ) where
   from_none : (flows : ℕ → Flow) → ((place : ℕ) → flows place ≡ []) → (select input : Option ℕ) → taken_from pipes flows select input ≡ []
   from_none flows none select None = refl
   from_none flows none select (Some input) = shared_none (slice_get pipes input) select (flows input) (none input)
@@ -75,23 +60,19 @@ module _ (pipes : List Pipe) (head : ℕ) where
     | inr other ↦ rw other (from_none flows none pipe.select pipe.input)
   ]
 
-  work_none : (flows : ℕ → Flow) → ((place : ℕ) → flows place ≡ []) → (place : ℕ) (pipe : Option Pipe)
+  work_none : (flows : ℕ → Flow) → ((place : ℕ) → flows place ≡ []) → (place : ℕ) (pipe : Option Pipe) → slice_get pipes place ≡ pipe
       → (work_at so_far pipes (to_head head []) flows place pipe).flow ≡ []
-  work_none flows none place None = refl
-  work_none flows none place (Some pipe) = done_none place _ _ (takes_none flows none place pipe)
+  work_none flows none place None is = refl
+  work_none flows none place (Some pipe) is = done_none place _ _ (are_bounded pipes well place pipe is) (takes_none flows none place pipe)
 
   puts_none : (steps place : ℕ) → flow_within so_far pipes (to_head head []) steps place ≡ []
   puts_none zero place = refl
-  puts_none (suc steps) place = work_none (flow_within so_far pipes (to_head head []) steps) (puts_none steps) place (slice_get pipes place)
+  puts_none (suc steps) place = work_none (flow_within so_far pipes (to_head head []) steps) (puts_none steps) place (slice_get pipes place) refl
 
+-- no block of a source is full before its first byte, and no other kind carries anything of its own
 carried_none : (kind : Kind) → settled_source_flow kind [] ≡ []
 carried_none (kinds.Source path (source_forms.Raw block) limit) = rw (zero-div block) refl
-carried_none (kinds.Sink path form) = refl
-carried_none kinds.Idem = refl
-carried_none kinds.Null = refl
-carried_none kinds.Dup = refl
-carried_none (kinds.Skip bytes) = refl
-carried_none (kinds.DelAttr attr) = refl
+carried_none kind = refl
 
 had_by_kind : (source : Bool) (kind : Kind) → cond source (settled_source_flow kind []) [] ≡ []
 had_by_kind true kind = carried_none kind
@@ -102,11 +83,11 @@ had_none None = refl
 had_none (Some pipe) = had_by_kind (is_source pipe.kind) pipe.kind
 
 -- nothing is to be written yet
-pub nothing_due : (pipes : List Pipe) (head : ℕ) (source : Option SourceState) (told : ℕ → SinkState) (place : ℕ) (pipe : Pipe)
+pub nothing_due : (pipes : List Pipe) (well : IsWellFormed pipes) (head : ℕ) (source : Option SourceState) (told : ℕ → SinkState) (place : ℕ) (pipe : Pipe)
     → bytes_due (begun pipes head source told) place pipe (doing None) ≡ []
-nothing_due pipes head source told place pipe =
+nothing_due pipes well head source told place pipe =
     ap (λ (had : Flow). bytes_by so_far pipes (to_head head had) place pipe) (had_none (slice_get pipes head))
-    ∙ ap (written_of pipe.kind) (takes_none pipes head (flow_by so_far pipes (to_head head [])) (λ p. puts_none pipes head (length pipes) p) place pipe)
+    ∙ ap (written_of pipe.kind) (takes_none pipes well head (flow_by so_far pipes (to_head head [])) (λ p. puts_none pipes well head (length pipes) p) place pipe)
     ∙ written_none pipe.kind
 
 uncounted : (count : ℕ) → CountsWhere false count count
@@ -130,10 +111,10 @@ source_unread pipes head told start = record {
     same_sum None = tt
     same_sum (Some count) = omega arith
 
-pub sink_ungiven : (pipes : List Pipe) (head : ℕ) (source : Option SourceState) (told : ℕ → SinkState) (place : ℕ) (pipe : Pipe)
+pub sink_ungiven : (pipes : List Pipe) (well : IsWellFormed pipes) (head : ℕ) (source : Option SourceState) (told : ℕ → SinkState) (place : ℕ) (pipe : Pipe)
     → SinkEnds (begun pipes head source told) place pipe (told place)
-sink_ungiven pipes head source told place pipe =
-    let due = nothing_due pipes head source told place pipe in
+sink_ungiven pipes well head source told place pipe =
+    let due = nothing_due pipes well head source told place pipe in
     record {
       put = [];
       appended = Appends-nil (told place).written;

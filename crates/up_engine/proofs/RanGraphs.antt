@@ -1,6 +1,6 @@
 -- A run of a graph, by where its opening stopped.
 use Rattle.std.specs.Prelude.{OnOk}
-use Rattle.std.proofs.Common.{◌≡◌, ℕ, ◌<◌, List, length, map, set, take, drop, get_or, replicate, true, false, Option, Some, None, IfSome, Result, Ok, Err, slice_get, refl, sym, ap, ◌∙◌, subst, arith, append-nil, inl, inr}
+use Rattle.std.proofs.Common.{◌≡◌, ℕ, ◌<◌, List, length, set, drop, get_or, replicate, true, false, Some, IfSome, Result, Ok, Err, slice_get, refl, sym, ap, ◌∙◌, subst, arith, append-nil, inl, inr}
 use Rattle.std.proofs.lemmas.List.{get_or-replicate, length-replicate}
 use Rattle.std.proofs.lemmas.Option.{same_Some, slice_get-get_or, slice_get_within}
 use Rattle.up_base.specs.declared.refusal.NoMemory.{NoMemory as NoMemoryFound}
@@ -10,19 +10,18 @@ use Rattle.up_engine.proofs.LeftOpen.{LeftOpen, left_alone, left_carried, place_
 use Rattle.up_engine.proofs.Opened.{still}
 use Rattle.up_engine.proofs.OpenedAndClosed.{can_close}
 use Rattle.up_engine.proofs.PathPlaces.{path_place_stands}
-use Rattle.up_engine.proofs.StoppedAtRefusal.{shut, stopped_there}
+use Rattle.up_engine.proofs.StoppedAtRefusal.{stopped_there}
 use Rattle.up_engine.proofs.StoppedShort.{stopped_short}
 use Rattle.up_engine.proofs.WentThrough.{went_through}
 use Rattle.up_engine.specs.Carried.{CarriedBy, CarriedShort}
 use Rattle.up_engine.specs.Entries.{KeepsOtherPaths, KeepsPathsOf, path_places}
-use Rattle.up_engine.specs.Objects.{AreOpen, AreThere, Closes, Opens, StandsAt, object_at}
+use Rattle.up_engine.specs.Objects.{AreOpen, AreThere, Closes, Opens, object_at}
 use Rattle.up_engine.specs.Rooms.{EndsRun, answer_of}
 use Rattle.up_engine.specs.Runs.{RanGraph, RanTo, Ways, fault_of}
 use Rattle.up_engine.specs.declared.object.Object.{Object}
 use Rattle.up_engine.specs.declared.object.Object.TheVariants as objects
 use Rattle.up_engine.specs.declared.opening.Opening.{Opening}
 use Rattle.up_engine.specs.declared.opening.Opening.TheVariants.{All, Refused, NoMemory}
-use Rattle.up_engine.specs.declared.results.Results.{Results}
 use Rattle.up_engine.specs.declared.rooms.Rooms.{Rooms}
 use Rattle.up_engine.specs.declared.run_outcome.RunOutcome.{RunOutcome}
 use Rattle.up_engine.specs.declared.run_outcome.RunOutcome.TheVariants as answers
@@ -153,13 +152,9 @@ module _ {S K : Type 0} (reads : S → SourceState) (writes : K → SinkState) (
         record {
           others = others_closed reads writes pipes old mid new (Refused place) opened opened ended.after rooms.results.outcomes.items ended.ends opens
               (left_alone reads writes pipes opens.count opened opens.there) closes;
-          to = subst (RanTo pipes old new store_before store_after) (sym ended.answer) (inr (
-            place,
-            opens.count,
-            shut reads writes pipes old mid new place pipe is opened ended.after rooms.results.outcomes.items ended.ends opens closes are,
-            stopped_there reads writes pipes old mid new place pipe is opened ended.after rooms.results.outcomes.items ended.ends opens closes are
-                well rooms.results.tallies.items none,
-          ));
+          to = subst (RanTo pipes old new store_before store_after) (sym ended.answer) (inr
+              (stopped_there reads writes pipes old mid new place pipe is opened ended.after rooms.results.outcomes.items ended.ends opens closes are
+              well rooms.results.tallies.items none));
         }
 
     -- memory ran out while paths were opened

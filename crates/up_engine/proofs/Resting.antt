@@ -14,10 +14,10 @@ use Rattle.up_engine.specs.Joins.{IsJoined, filler_of, plain_item}
 use Rattle.up_engine.specs.Nets.{IsAtRest, IsFull, IsOver, NetStands, head_at, items_at}
 use Rattle.up_engine.specs.declared.net.Net.{Net}
 use Rattle.up_model.proofs.AlongInputs.{goes_on}
-use Rattle.up_model.proofs.WellFormed.{comes_to_source, has_source, there}
+use Rattle.up_model.proofs.WellFormed.{comes_to_source, has_source, is_pipe, there}
 use Rattle.up_model.specs.Ends.{is_source}
 use Rattle.up_model.specs.Inputs.{ends_at_source, passes_at, reached_within, source_of}
-use Rattle.up_model.specs.Plans.{heads, is_fed, lanes, outlets_of}
+use Rattle.up_model.specs.Plans.{heads, is_fed, lane_length, lanes, outlets_of}
 use Rattle.up_model.specs.WellFormed.{IsWellFormed}
 use Rattle.up_model.specs.declared.pipe.Pipe.{Pipe}
 use Rattle.up_model.specs.declared.plain_packet.PlainPacket.{PlainPacket}
@@ -47,19 +47,26 @@ no_items of [] none = refl
 no_items of (x ∷ items) none = absurd (cc)
 
 -- a full lane, which has room for one at least, isn't empty
-full_waits : {P : Type 0} (o : Option (Lane P)) → ((lane : Lane P) → o ≡ Some lane → 0 < lane.cap) → IsFull o
+full_waits : {P : Type 0} (size : ℕ) (o : Option (Lane P)) → 0 < size → ((lane : Lane P) → o ≡ Some lane → lane.cap ≡ size) → IsFull o
     → option_map_or (λ (lane : Lane P). lane.items) o [] ≡ [] → ⊥
-full_waits None room full none = full
-full_waits (Some lane) room full none =
-    let some = room lane refl in
+full_waits size None some room full none = full
+full_waits size (Some lane) some room full none =
+    let cap = room lane refl in
     let count : length lane.items ≡ 0 = ap length none in
-    omega (arith, some, full, count)
+    omega (arith, some, cap, full, count)
 
 empty_where_none : {P : Type 0} (o : Option (Lane P)) → is_some o ≡ false → option_map_or (λ (lane : Lane P). lane.items) o [] ≡ []
 empty_where_none None none = refl
 empty_where_none (Some lane) none = absurd (cc)
 
 module _ (pipes : List Pipe) (well : IsWellFormed pipes) where
+  -- the `queue` of a pipe is one at least
+  queue_is_some : (place : ℕ) → place < length pipes → 0 < lane_length pipes place
+  queue_is_some place within =
+      let at = there pipes place within in
+      let some = (is_pipe pipes well place at.0 at.1).queue.0 in
+      rw at.1 (omega (arith, some))
+
   -- a lane's head is no source
   no_source : (lane : ℕ) → Contains (lanes pipes) lane → passes_at ends_at_source pipes lane ≡ false
   no_source lane is = elim (cases_Bool (passes_at ends_at_source pipes lane)) [
@@ -157,7 +164,8 @@ module _ {P S K : Type 0} (plain : P → PlainPacket) (reads : S → SourceState
         subst (λ (k : ℕ). IsFull (slice_index_or net.lanes.items k None)) numbered back.full in
         let filled : Contains (outlets_of pipes (head_at pipes i)) (head_at pipes j) = rw number.2 waits.0 in
         let ajar : (past (head_at pipes i)).closed (head_at pipes j) ≡ false = rw number.2 waits.1 in
-        let some = full_waits (slice_index_or net.lanes.items j None) (stands.shape.room j) full in
+        let some = full_waits (lane_length pipes (head_at pipes j)) (slice_index_or net.lanes.items j None)
+        (queue_is_some pipes well (head_at pipes j) (head_within pipes (head_at pipes j) (head_there pipes j number.1))) (stands.shape.room j) full in
         record {
           next = j;
           within = number.1;

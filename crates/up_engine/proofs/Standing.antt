@@ -1,5 +1,5 @@
 -- A net after a step of one of its strands.
-use Rattle.std.proofs.Common.{◌≡◌, ◌≢◌, ℕ, ◌<◌, List, ◌++◌, length, get_or, set, map, true, All, Option, None, Some, is_some, slice_get, refl, sym, ap, ◌∙◌, subst, append_assoc, arith, inl, inr}
+use Rattle.std.proofs.Common.{◌≡◌, ◌≢◌, ℕ, ◌<◌, List, ◌++◌, length, get_or, set, map, true, All, Option, None, Some, is_some, slice_get, refl, sym, ap, ◌∙◌, subst, append_assoc, inl, inr}
 use Rattle.std.specs.List.{Contains}
 use Rattle.std.proofs.lemmas.Bool.Decides.{eqb_tells}
 use Rattle.std.proofs.lemmas.List.{get_or-set_other, length-set}
@@ -41,9 +41,7 @@ same_shape net new pipes i same shape = record {
   lanes = λ k within. same.lanes k ∙ shape.lanes k within;
   room = λ k lane is.
       let before = same.room k lane is in
-      let some = shape.room k before.0 before.1 in
-      let cap = before.2 in
-      omega (arith, some, cap);
+      before.2 ∙ shape.room k before.0 before.1;
   filler_count = ap length same.fillers ∙ shape.filler_count;
   fillers = λ k filler within filled. ap (λ fillers. slice_get (heads pipes) (get_or fillers k 0)) same.fillers ∙ shape.fillers k filler within filled;
   number_count = ap length same.numbers ∙ shape.number_count;

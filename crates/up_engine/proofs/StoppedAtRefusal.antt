@@ -168,13 +168,13 @@ module _ {S K : Type 0} (reads : S → SourceState) (writes : K → SinkState) (
             (get_or-set_other broken place k (fault_of pipe.kind) d apart.1 ∙ get_or-replicate (length pipes) k outcomes.Broken d within)
       ]
 
-  endings_as : ends_closed ≡ map (ending_refused pipes place opens.count shut) (places pipes)
+  endings_as : ends_closed ≡ map (ending_refused pipes place shut) (places pipes)
   endings_as =
       let size = closes.size in
       let first_long : length ends ≡ length pipes =
       ap length are ∙ length-set (replicate (length pipes) outcomes.Broken) place (fault_of pipe.kind) ∙ length-replicate (length pipes) outcomes.Broken in
-      let long = length-map-range_with_len (ending_refused pipes place opens.count shut) 0 (length pipes) in
-      same_lists ends_closed (map (ending_refused pipes place opens.count shut) (places pipes)) (omega (arith, size, first_long, long)) (λ k d inside.
+      let long = length-map-range_with_len (ending_refused pipes place shut) 0 (length pipes) in
+      same_lists ends_closed (map (ending_refused pipes place shut) (places pipes)) (omega (arith, size, first_long, long)) (λ k d inside.
       let within : k < length pipes = omega (arith, size, inside, first_long) in
       let own = get_or pipes k pipe in
       let there : slice_get pipes k ≡ Some own = slice_get-get_or pipes k pipe within in
@@ -182,11 +182,11 @@ module _ {S K : Type 0} (reads : S → SourceState) (writes : K → SinkState) (
       ∙ ap (outcome_closed (closes.refused k)) (began_as k d own within there)
       ∙ ending_as (k == place) (closes.refused k) own.kind (λ here. ap closes.refused (eqb-true k place here) ∙ not_opened) (refused_is_sink k own there)
       ∙ ap (λ (p : Option Pipe). option_map_or (λ (own : Pipe). cond ((k == place) || not (shut k)) (fault_of own.kind) outcomes.Broken) p outcomes.Broken) (sym there)
-      ∙ sym (get_or-map-range_with_len (ending_refused pipes place opens.count shut) 0 (length pipes) k k d within (omega arith)))
+      ∙ sym (get_or-map-range_with_len (ending_refused pipes place shut) 0 (length pipes) k k d within (omega arith)))
 
   module _ (is_fault : Outcome → Bool) (is_such : Kind → Bool) (tells : Tells is_fault is_such) where
     abbrev fault_at : ℕ → Bool
-    fault_at k = is_fault (ending_refused pipes place opens.count shut k)
+    fault_at k = is_fault (ending_refused pipes place shut k)
 
     abbrev failed_at : ℕ → Bool
     failed_at k = option_map_or (λ (own : Pipe). is_such own.kind) (slice_get pipes k) false && has_failed reads writes pipes closes.refused opened k
@@ -204,14 +204,14 @@ module _ {S K : Type 0} (reads : S → SourceState) (writes : K → SinkState) (
         let path = path_place_stands pipes opens.count count_within in
         let has : is_some (path_of pipe.kind) ≡ true =
         subst (λ (p : Pipe). is_some (path_of p.kind) ≡ true) (same_Some path.pipe pipe (sym path.there ∙ ap (slice_get pipes) is_next ∙ is)) path.has_path in
-        let ends_so : ending_refused pipes place opens.count shut place ≡ fault_of pipe.kind = rw (is, eq-eqb place place refl) refl in
+        let ends_so : ending_refused pipes place shut place ≡ fault_of pipe.kind = rw (is, eq-eqb place place refl) refl in
         ap is_fault ends_so ∙ elim (has_side pipe.kind has) [
           | inl source ↦ tells.source pipe.kind source
           | inr sink ↦ tells.sink pipe.kind sink
         ]
 
     counted_as : count_by is_fault ends_closed ≡ count_by fault_at (places pipes)
-    counted_as = ap (count_by is_fault) endings_as ∙ mapped_count is_fault (ending_refused pipes place opens.count shut) (places pipes)
+    counted_as = ap (count_by is_fault) endings_as ∙ mapped_count is_fault (ending_refused pipes place shut) (places pipes)
 
     counted_so : ◌≡◌ {A = ℕ} (cond (is_refused_as reads writes pipes is_such (Refused place)) 1 0 + count_by failed_at (places pipes)) (count_by is_fault ends_closed)
     counted_so =
@@ -232,8 +232,11 @@ module _ {S K : Type 0} (reads : S → SourceState) (writes : K → SinkState) (
       ∙ ap (λ (failed : Bool). marks.Closed 0 failed (shut other)) (failed_if_refused other ∙ sym (not_not (closes.refused other)))
 
   pub stopped_there : IsWellFormed pipes → (tallies : List Tally) → tallies ≡ replicate (length pipes) nothing
-      → StoppedThere pipes place opens.count shut old new ends_closed tallies
+      → StoppedThere pipes old new ends_closed tallies
   stopped_there well tallies none = record {
+    place = place;
+    count = opens.count;
+    shut = shut;
     at = opens.stops;
     endings = endings_as;
     shut_else = λ other refused.

@@ -1,9 +1,8 @@
 -- A run in which memory ran out.
-use Rattle.std.specs.Prelude.{◌||◌, nat_lt}
-use Rattle.std.proofs.Common.{◌≡◌, ℕ, ◌+◌, ◌≤◌, List, [], ◌++◌, length, take, Bool, true, false, not, Option, Some, None, IfSome, slice_get, refl, sym, ap, ◌∙◌, subst, arith, append-nil}
+use Rattle.std.specs.Prelude.{nat_lt}
+use Rattle.std.proofs.Common.{◌≡◌, ℕ, ◌+◌, ◌≤◌, List, [], ◌++◌, length, take, true, false, not, Option, Some, None, IfSome, slice_get, refl, sym, ap, ◌∙◌, arith, append-nil}
 use Rattle.std.specs.List.{Contains}
 use Rattle.std.specs.Option.{option_map_or}
-use Rattle.up_base.specs.Lists.{IsPrefix}
 use Rattle.up_engine.proofs.HeldAfter.{AllFresh, AllStored, given_lies, left_held, refused_passes, stored_closed, told_more, untouched_closed}
 use Rattle.up_engine.proofs.ClosedWays.{not_refused, not_so, or_false}
 use Rattle.up_engine.proofs.FaultCounts.{faults_tell}
@@ -11,22 +10,17 @@ use Rattle.up_engine.proofs.LeftOpen.{LeftOpen, place_same, ways_given}
 use Rattle.up_engine.proofs.OpenedAndClosed.{all_entries}
 use Rattle.up_engine.proofs.PathObjects.{among_index, index_among, sink_stands, source_stands}
 use Rattle.up_engine.specs.Entries.{entries_at, path_places}
-use Rattle.up_engine.specs.Objects.{AreThere, Closes, Opens, StandsAt, closed_mark, entries_refused, faults_of, has_failed, index_of, moved_told, object_at}
-use Rattle.up_engine.specs.Runs.{GaveWithin, RanShort, held_bytes}
+use Rattle.up_engine.specs.Objects.{Closes, Opens, StandsAt, closed_mark, entries_refused, faults_of, has_failed, index_of, moved_told, object_at}
+use Rattle.up_engine.specs.Runs.{RanShort, held_bytes}
 use Rattle.up_engine.specs.declared.object.Object.{Object}
-use Rattle.up_engine.specs.declared.object.Object.TheVariants as objects
 use Rattle.up_engine.specs.declared.opening.Opening.{Opening}
-use Rattle.up_model.specs.Ends.{is_sink, is_source, path_of}
-use Rattle.up_model.specs.Meaning.{sink_bytes}
-use Rattle.up_model.specs.Outcomes.{source_flows}
+use Rattle.up_model.specs.Ends.{is_source}
 use Rattle.up_model.specs.WellFormed.{IsWellFormed}
 use Rattle.up_model.specs.declared.form.SourceForm.{SourceForm}
-use Rattle.up_model.specs.declared.kind.Kind.{Kind}
 use Rattle.up_model.specs.declared.kind.Kind.TheVariants.{Source}
 use Rattle.up_model.specs.declared.outcome.Outcome.{Outcome}
 use Rattle.up_model.specs.declared.pipe.Pipe.{Pipe}
 use Rattle.up_outside.proofs.Told.{Then-map, always, counted_from}
-use Rattle.up_outside.specs.Held.{Held}
 use Rattle.up_outside.specs.States.{DepotState, SourceState, SinkState}
 use Rattle.up_outside.specs.Told.{Then}
 use Rattle.up_outside.specs.declared.asked.Entry.{Entry}

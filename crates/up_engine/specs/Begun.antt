@@ -1,6 +1,6 @@
 -- A net while its strands are made, from the first on, and while they are given up, from the last
 -- on.
-use Rattle.std.specs.Prelude.{◌≡◌, ◌<◌, ◌≤◌, ℕ, List, [], ◌∷◌, ◌++◌, length, map, slice_get, slice_index_or, Bool, true, false, Some}
+use Rattle.std.specs.Prelude.{◌≡◌, ◌<◌, ◌≤◌, ℕ, List, [], ◌∷◌, ◌++◌, length, map, slice_get, slice_index_or, Bool, false, Some}
 use Rattle.std.specs.List.{Contains}
 use Rattle.up_engine.specs.Making.{IsBack, source_told}
 use Rattle.up_engine.specs.Nets.{head_at}

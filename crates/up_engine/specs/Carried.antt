@@ -1,6 +1,6 @@
 -- What the strands of a graph carried, by its pipes and by what each source and sink tells before
 -- and after.
-use Rattle.std.specs.Prelude.{◌≡◌, ◌≢◌, ℕ, ◌+◌, ◌≤◌, ◌<◌, List, [], ◌++◌, length, map, sum, min, slice_get, slice_index_or, Bool, true, false, Option, Some, None, unwrap_or, IfSome}
+use Rattle.std.specs.Prelude.{◌≡◌, ◌≢◌, ℕ, ◌+◌, ◌≤◌, ◌<◌, List, length, map, sum, min, slice_get, slice_index_or, Bool, true, false, Some}
 use Rattle.std.specs.Io.KnownBytes.{Appends, IsAtEnd}
 use Rattle.std.specs.List.{filter}
 use Rattle.up_base.specs.Lists.{IsPrefix}
@@ -10,7 +10,7 @@ use Rattle.up_engine.specs.Runs.{GaveWithin, Ways, carried, due_at, ending}
 use Rattle.up_engine.specs.declared.object.Object.{Object}
 use Rattle.up_engine.specs.declared.object.Object.TheVariants as objects
 use Rattle.up_engine.specs.declared.results.Results.{Results}
-use Rattle.up_model.specs.Ends.{is_sink, is_source}
+use Rattle.up_model.specs.Ends.{is_source}
 use Rattle.up_model.specs.Inputs.{ends_at_source, passes_at, places}
 use Rattle.up_model.specs.Meaning.{sink_bytes, tally_of}
 use Rattle.up_model.specs.Outcomes.{source_flows}

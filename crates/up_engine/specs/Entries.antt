@@ -1,18 +1,18 @@
 -- The paths of a graph, in the order in which they are opened, and what became of each.
-use Rattle.std.specs.Prelude.{◌≡◌, ◌≢◌, ℕ, List, [], ◌++◌, map, slice_get, true, Some}
+use Rattle.std.specs.Prelude.{◌≡◌, ◌≢◌, ℕ, List, [], ◌++◌, map, slice_get, true, Option, Some, None, unwrap_or, if◌then◌else◌}
 use Rattle.std.specs.FinMap.{get}
 use Rattle.std.specs.List.{Contains, filter}
 use Rattle.std.specs.Option.{option_map_or}
-use Rattle.up_model.specs.Ends.{path_of}
+use Rattle.up_model.specs.Ends.{is_sink, is_source, path_of}
 use Rattle.up_model.specs.Inputs.{ends_at_source, passes_at, places}
 use Rattle.up_model.specs.Plans.{ends_at_sink}
 use Rattle.up_model.specs.declared.kind.Kind.{Kind}
-use Rattle.up_model.specs.declared.kind.Kind.TheVariants.{Source, Sink}
 use Rattle.up_model.specs.declared.pipe.Pipe.{Pipe}
 use Rattle.up_outside.specs.Asked.{entry}
 use Rattle.up_outside.specs.Held.{Held}
 use Rattle.up_outside.specs.declared.asked.Entry.{Entry}
 use Rattle.up_outside.specs.declared.asked.Mark.{Mark}
+use Rattle.up_outside.specs.declared.asked.Side.{Side}
 use Rattle.up_outside.specs.declared.asked.Side.TheVariants as sides
 
 -- the pipes that have a path, in the order in which their paths are opened: sources, then sinks,
@@ -21,17 +21,25 @@ abbrev pub path_places : List Pipe → List ℕ
 path_places pipes = filter (passes_at ends_at_source pipes) (places pipes)
     ++ filter (passes_at ends_at_sink pipes) (places pipes)
 
--- an open of the path of a pipe of this kind, and what became of it; no other kind has a path
+-- the side on which the path of a pipe of this kind is opened: a source's is read, a sink's is
+-- written, and of any other kind none is opened
+abbrev pub side_of : Kind → Option Side
+side_of kind =
+    if is_source kind then Some sides.Source else (if is_sink kind then Some sides.Sink else None)
+
+-- what stands for an open where none is: its path is empty, as no pipe's is
+abbrev pub no_entry : Mark → Entry
+no_entry mark = entry [] sides.Source mark
+
+-- an open of the path of a pipe of this kind, and what became of it
 abbrev pub entry_of : Kind → Mark → Entry
-entry_of (Source path form limit) mark = entry path sides.Source mark
-entry_of (Sink path form) mark = entry path sides.Sink mark
-entry_of kind mark = entry [] sides.Source mark
+entry_of kind mark = option_map_or
+    (λ side. entry (unwrap_or (path_of kind) []) side mark) (side_of kind) (no_entry mark)
 
 -- so of the pipe at a place
 abbrev pub entry_at : List Pipe → ℕ → Mark → Entry
 entry_at pipes place mark =
-    option_map_or (λ pipe. entry_of pipe.kind mark) (slice_get pipes place)
-    (entry [] sides.Source mark)
+    option_map_or (λ pipe. entry_of pipe.kind mark) (slice_get pipes place) (no_entry mark)
 
 -- an entry for each of these pipes, by what became of the open at each place
 abbrev pub entries_at : List Pipe → (ℕ → Mark) → List ℕ → List Entry

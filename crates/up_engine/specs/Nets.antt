@@ -7,7 +7,7 @@ use Rattle.up_engine.specs.declared.net.Net.{Net}
 use Rattle.up_engine.specs.declared.net.Turn.{Turn}
 use Rattle.up_engine.specs.declared.net.Turn.TheVariants.{Read, Moved, Done}
 use Rattle.up_model.specs.Inputs.{passes_at, source_of}
-use Rattle.up_model.specs.Plans.{heads, is_fed, lanes}
+use Rattle.up_model.specs.Plans.{heads, is_fed, lane_length, lanes}
 use Rattle.up_model.specs.WellFormed.{IsWellFormed}
 use Rattle.up_model.specs.declared.kind.Kind.{Kind}
 use Rattle.up_model.specs.declared.kind.Kind.TheVariants.{Source}
@@ -53,8 +53,9 @@ module _ {P S K : Type 0} (net : Net P S K) (pipes : List Pipe) where
     pub lane_count : length net.lanes.items ≡ length (heads pipes)
     pub lanes : (i : ℕ) → i < length (heads pipes)
         → is_some (slice_index_or net.lanes.items i None) ≡ passes_at is_fed pipes (head_at pipes i)
+    -- a lane has the length of the pipe's `queue`
     pub room : (i : ℕ) (lane : Lane P) → slice_index_or net.lanes.items i None ≡ Some lane
-        → 0 < lane.cap
+        → lane.cap ≡ lane_length pipes (head_at pipes i)
     pub filler_count : length net.fillers.items ≡ length (heads pipes)
     pub fillers : (i filler : ℕ) → i < length (heads pipes)
         → filler_of pipes (head_at pipes i) ≡ Some filler
@@ -192,7 +193,7 @@ module _ {P S K : Type 0} (plain : P → PlainPacket) (reads : S → SourceState
     pub done : turn ≡ Done → IsOver after pipes
 
   -- it went on until nothing was to be done
-  pub record RanOut {F : Type 0} (net : Net P S K) (old new : StoreState F) : Type 0 where
+  pub record RanToEnd {F : Type 0} (net : Net P S K) (old new : StoreState F) : Type 0 where
     pub went : Went net old new
     pub over : IsOver net pipes
 

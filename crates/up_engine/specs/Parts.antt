@@ -1,6 +1,6 @@
 -- What is open for the pipes of one strand: taken out of the table for it, and put back into the
 -- table.
-use Rattle.std.specs.Prelude.{◌≡◌, ℕ, ◌<◌, List, [], ◌∷◌, length, slice_get, slice_index_or, slice_set, Bool, true, false, Option, Some, None, MatchOption, if◌then◌else◌}
+use Rattle.std.specs.Prelude.{◌≡◌, ℕ, ◌<◌, List, [], ◌∷◌, length, slice_get, slice_index_or, Bool, true, false, Option, Some, None}
 use Rattle.std.specs.List.{Contains, flat_map}
 use Rattle.up_engine.specs.Making.{IsBack}
 use Rattle.up_engine.specs.Objects.{object_at}

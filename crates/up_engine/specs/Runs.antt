@@ -1,12 +1,12 @@
 -- What a run of a graph leaves, from the first open of a path to the last close: by the pipes of
 -- the graph, by what the depot tells, and by one outcome for each pipe.
-use Rattle.std.specs.Prelude.{◌≡◌, ◌⊎◌, ℕ, ◌+◌, ◌-◌, ◌^◌, ◌<◌, ◌≤◌, ◌++◌, ◌==◌, ◌&&◌, ◌||◌, List, [], ◌∷◌, length, map, take, drop, sum, min, slice_get, slice_index_or, count_by, Bool, true, false, not, Option, Some, None, IfSome, unwrap_or, option_and_then, if◌then◌else◌}
+use Rattle.std.specs.Prelude.{◌≡◌, ◌⊎◌, ℕ, ◌+◌, ◌<◌, ◌≤◌, ◌++◌, ◌==◌, ◌&&◌, ◌||◌, List, [], ◌∷◌, length, map, take, drop, sum, min, slice_get, slice_index_or, count_by, Bool, true, false, not, Some, IfSome, unwrap_or, option_and_then, if◌then◌else◌}
 use Rattle.std.specs.FinMap.{get}
 use Rattle.std.specs.List.{Contains, filter}
 use Rattle.std.specs.Option.{option_map_or}
 use Rattle.up_base.specs.Lists.{IsPrefix}
 use Rattle.up_engine.specs.Counting.{RoseBy}
-use Rattle.up_engine.specs.Entries.{KeepsOtherPaths, KeepsPathsOf, entries_at, entry_at, path_places}
+use Rattle.up_engine.specs.Entries.{KeepsOtherPaths, KeepsPathsOf, entries_at, entry_at, path_places, side_of}
 use Rattle.up_engine.specs.declared.run_outcome.RunOutcome.{RunOutcome}
 use Rattle.up_engine.specs.declared.run_outcome.RunOutcome.TheVariants.{Ended, NoMemory}
 use Rattle.up_model.specs.Ends.{is_sink, is_source, path_of}
@@ -28,6 +28,8 @@ use Rattle.up_outside.specs.States.{DepotState}
 use Rattle.up_outside.specs.Told.{Then}
 use Rattle.up_outside.specs.declared.asked.Mark.{Mark}
 use Rattle.up_outside.specs.declared.asked.Mark.TheVariants as marks
+use Rattle.up_outside.specs.declared.asked.Side.{Side}
+use Rattle.up_outside.specs.declared.asked.Side.TheVariants as sides
 use Rattle.up_shape.specs.Stores.{StoreState}
 
 -- a read fault, a write fault
@@ -148,42 +150,50 @@ module _ (pipes : List Pipe) (ways : Ways) where
         (filter (passes_at ends_at_source pipes) (places pipes)))
         ≤ store_after.drawn
 
--- the fault of a pipe whose open or close was refused
+-- the fault of a pipe whose open or close was refused, by its side; one that has none is opened
+-- nowhere, and is broken as all others are
+abbrev pub fault_on : Side → Outcome
+fault_on sides.Source = outcomes.ReadFault
+fault_on sides.Sink = outcomes.WriteFault
+
 abbrev pub fault_of : Kind → Outcome
-fault_of (Source path form limit) = outcomes.ReadFault
-fault_of kind = outcomes.WriteFault
+fault_of kind = option_map_or fault_on (side_of kind) outcomes.Broken
 
-module _ (pipes : List Pipe) (place count : ℕ) (shut : ℕ → Bool) where
-  -- the open at the place was refused, when so many others had been opened: that pipe has a fault,
-  -- and so has one whose close was refused; all others are broken
-  abbrev pub ending_refused : ℕ → Outcome
-  ending_refused other = option_map_or
-      (λ pipe. if (other == place) || not (shut other) then fault_of pipe.kind else outcomes.Broken)
-      (slice_get pipes other) outcomes.Broken
+-- the open at the place was refused: that pipe has a fault, and so has one whose close was refused;
+-- all others are broken
+abbrev pub ending_refused : List Pipe → ℕ → (ℕ → Bool) → ℕ → Outcome
+ending_refused pipes place shut other = option_map_or
+    (λ pipe. if (other == place) || not (shut other) then fault_of pipe.kind else outcomes.Broken)
+    (slice_get pipes other) outcomes.Broken
 
-  -- an open was refused: what had been opened was closed, and nothing ran
-  pub record StoppedThere (old new : DepotState) (ends : List Outcome) (tallies : List Tally)
-      : Type 0 where
-    pub at : slice_get (path_places pipes) count ≡ Some place
-    pub endings : ends ≡ map ending_refused (places pipes)
-    -- only of sinks that had been opened a close was refused
-    pub shut_else : (other : ℕ) → shut other ≡ false
-        → Contains (take count (path_places pipes)) other
-        × (passes_at ends_at_sink pipes other ≡ true)
-    pub entries : Then (λ before after. after ≡ before
-        ++ (entries_at pipes (λ other. marks.Closed 0 (not (shut other)) (shut other))
-        (take count (path_places pipes)) ++ entry_at pipes place marks.Refused ∷ []))
-        old.asked new.asked
-    pub empty : Then (λ before after. (other : ℕ) (pipe : Pipe) (path : List ℕ)
-        → Contains (take count (path_places pipes)) other → slice_get pipes other ≡ Some pipe
-        → is_sink pipe.kind ≡ true → shut other ≡ true → path_of pipe.kind ≡ Some path
-        → get after path ≡ Some []) old.held new.held
-    -- what no open was asked for has what it had
-    pub untouched : Then (KeepsPathsOf pipes (drop (count + 1) (path_places pipes)))
-        old.held new.held
-    pub sources : RoseBy (count_by is_read_fault ends) old.source_faults new.source_faults
-    pub sinks : RoseBy (count_by is_write_fault ends) old.sink_faults new.sink_faults
-    pub sums : tallies ≡ map (λ other. nothing) (places pipes)
+-- an open was refused: what had been opened was closed, and nothing ran
+pub record StoppedThere (pipes : List Pipe) (old new : DepotState) (ends : List Outcome)
+    (tallies : List Tally) : Type 0 where
+  -- the place of the pipe whose open was refused, how many paths had been opened before it, and
+  -- whether the close of each of those was Ok
+  pub place : ℕ
+  pub count : ℕ
+  pub shut : ℕ → Bool
+  pub at : slice_get (path_places pipes) count ≡ Some place
+  pub endings : ends ≡ map (ending_refused pipes place shut) (places pipes)
+  -- only of sinks that had been opened a close was refused
+  pub shut_else : (other : ℕ) → shut other ≡ false
+      → Contains (take count (path_places pipes)) other
+      × (passes_at ends_at_sink pipes other ≡ true)
+  pub entries : Then (λ before after. after ≡ before
+      ++ (entries_at pipes (λ other. marks.Closed 0 (not (shut other)) (shut other))
+      (take count (path_places pipes)) ++ entry_at pipes place marks.Refused ∷ []))
+      old.asked new.asked
+  pub empty : Then (λ before after. (other : ℕ) (pipe : Pipe) (path : List ℕ)
+      → Contains (take count (path_places pipes)) other → slice_get pipes other ≡ Some pipe
+      → is_sink pipe.kind ≡ true → shut other ≡ true → path_of pipe.kind ≡ Some path
+      → get after path ≡ Some []) old.held new.held
+  -- what no open was asked for has what it had
+  pub untouched : Then (KeepsPathsOf pipes (drop (count + 1) (path_places pipes)))
+      old.held new.held
+  pub sources : RoseBy (count_by is_read_fault ends) old.source_faults new.source_faults
+  pub sinks : RoseBy (count_by is_write_fault ends) old.sink_faults new.sink_faults
+  pub sums : tallies ≡ map (λ other. nothing) (places pipes)
 
 -- memory ran out: what had been opened was closed, and none was refused
 pub record RanShort (pipes : List Pipe) (old new : DepotState) : Type 0 where
@@ -215,8 +225,7 @@ module _ {F : Type 0} (pipes : List Pipe) (old new : DepotState)
   abbrev pub RanTo : RunOutcome → Type 0
   RanTo (Ended ends tallies) =
       ((ways : Ways) × RanThrough pipes ways old new store_before store_after ends tallies)
-      ⊎ ((place : ℕ) × (count : ℕ) × (shut : ℕ → Bool)
-      × StoppedThere pipes place count shut old new ends tallies)
+      ⊎ StoppedThere pipes old new ends tallies
   RanTo NoMemory = RanShort pipes old new
 
   -- the run of a graph; every path that is no sink's stays

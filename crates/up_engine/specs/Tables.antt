@@ -1,28 +1,28 @@
 -- The tables of a net before its strands are made: an empty lane for each head that is no source,
 -- and pumps that are all ready.
-use Rattle.std.specs.Prelude.{◌≡◌, ◌<◌, ◌≤◌, ℕ, List, [], length, map, slice_get, slice_index_or, Bool, true, false, Option, Some, None}
+use Rattle.std.specs.Prelude.{◌≡◌, ◌<◌, ◌≤◌, ℕ, List, [], length, slice_get, slice_index_or, true, false, Option, Some, None}
 use Rattle.std.specs.Vec.{vec_capacity}
 use Rattle.up_engine.specs.Joins.{filler_of}
 use Rattle.up_engine.specs.Nets.{head_at}
 use Rattle.up_engine.specs.declared.net.Net.{Net}
 use Rattle.up_model.specs.Inputs.{passes_at}
-use Rattle.up_model.specs.Plans.{heads, is_fed}
+use Rattle.up_model.specs.Plans.{heads, is_fed, lane_length}
 use Rattle.up_model.specs.declared.pipe.Pipe.{Pipe}
 use Rattle.up_pump.specs.Pumps.{pump_at}
 use Rattle.up_queue.specs.Lane.{Lane}
 
--- an empty lane with room where there is to be one, else none
-abbrev pub IsEmptyLane : {P : Type 0} → Bool → Option (Lane P) → Type 0
-IsEmptyLane fed None = fed ≡ false
-IsEmptyLane fed (Some lane) = (fed ≡ true) × (0 < lane.cap) × (lane.items ≡ [])
+-- an empty lane of the length of the pipe's `queue` for a head that is no source, else none
+abbrev pub IsEmptyLane : {P : Type 0} → List Pipe → ℕ → Option (Lane P) → Type 0
+IsEmptyLane pipes head None = passes_at is_fed pipes head ≡ false
+IsEmptyLane pipes head (Some lane) = (passes_at is_fed pipes head ≡ true)
+    × (lane.cap ≡ lane_length pipes head) × (lane.items ≡ [])
 
 -- so many lanes, each as the head of its number is to have
 pub record AreEmptyLanes {P : Type 0} (pipes : List Pipe) (heads : List ℕ) (count : ℕ)
     (lanes : List (Option (Lane P))) : Type 0 where
   pub size : length lanes ≡ count
   pub each : (i : ℕ) → i < count
-      → IsEmptyLane (passes_at is_fed pipes (slice_index_or heads i 0))
-      (slice_index_or lanes i None)
+      → IsEmptyLane pipes (slice_index_or heads i 0) (slice_index_or lanes i None)
 
 -- all but its strands is made, and for those there is room
 pub record HasTables {P S K : Type 0} (pipes : List Pipe) (net : Net P S K) : Type 0 where

@@ -42,7 +42,6 @@ pub(crate) fn close_all<D: Depot>(
     }
 }
 
-/// Takes out what stands at a place.
 pub(crate) fn take_out<S: Source, K: Sink>(table: &mut [Object<S, K>], place: usize) -> Object<S, K>
     requires { place < length table.old }
     ensures value { result ≡ slice_index_or table.old place objects.None }
@@ -53,7 +52,6 @@ pub(crate) fn take_out<S: Source, K: Sink>(table: &mut [Object<S, K>], place: us
     mem::replace(&mut table[place], Object::None)
 }
 
-/// Closes what is open for a pipe of this kind.
 fn close_one<D: Depot>(
     kind: &Kind,
     object: Object<D::Src, D::Snk>,

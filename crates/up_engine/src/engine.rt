@@ -43,7 +43,6 @@ pub fn run_one_thread<P: LocalPacket, D: Depot>(
     }
 }
 
-/// Runs the graph in room that was taken beforehand.
 fn run_in<P: LocalPacket, D: Depot>(
     alloc: Global,
     graph: &Graph,
@@ -71,7 +70,7 @@ fn run_in<P: LocalPacket, D: Depot>(
         }
         Opening::Refused { place } => {
             let at = usize::from(place);
-            rooms.results.outcomes[at] = refused(&graph.pipes.at(at).kind);
+            rooms.results.outcomes[at] = fault_of(&graph.pipes.at(at).kind);
             end_run(graph, depot, rooms, Ok(()))
         }
         Opening::NoMemory => end_run(graph, depot, rooms, Err(NoMemory)),
@@ -107,7 +106,6 @@ fn carry_all<P: LocalPacket, S: Source, K: Sink>(
     Ok(())
 }
 
-/// Closes what is open, and answers.
 fn end_run<D: Depot>(
     graph: &Graph,
     depot: &mut D,
@@ -137,11 +135,14 @@ fn end_run<D: Depot>(
 }
 
 /// The fault of a pipe whose path couldn't be opened.
-fn refused(kind: &Kind) -> Outcome
+fn fault_of(kind: &Kind) -> Outcome
     ensures { result ≡ fault_of kind.now }
 {
-    match kind {
-        Kind::Source { .. } => Outcome::ReadFault,
-        _ => Outcome::WriteFault,
+    if kind.is_source() {
+        Outcome::ReadFault
+    } else if kind.is_sink() {
+        Outcome::WriteFault
+    } else {
+        Outcome::Broken
     }
 }

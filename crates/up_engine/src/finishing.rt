@@ -98,7 +98,6 @@ pub(crate) fn end_last<P: LocalPacket, S: Source, K: Sink>(
     Some(end_strand(graph, own, strand, table, s))
 }
 
-/// Gives up a strand, and what it had stands in the table again.
 fn end_strand<P: LocalPacket, S: Source, K: Sink>(
     graph: &Graph,
     own: &PlanStrand,
@@ -129,7 +128,6 @@ fn end_strand<P: LocalPacket, S: Source, K: Sink>(
     Told { outcomes, tallies }
 }
 
-/// Tells how the pipes at these places ended and what they counted.
 fn tell(places: &PlaceList, told: &Told, results: &mut Results)
     requires apart { AreApart places.now }
     requires outcomes { length told.now.outcomes ≡ length places.now }
@@ -147,7 +145,6 @@ fn tell(places: &PlaceList, told: &Told, results: &mut Results)
     }
 }
 
-/// Gives up lanes in which nothing waits.
 pub(crate) fn end_lanes<P>(mut lanes: Vec<Option<LocalLane<P>>>)
     requires { (i : ℕ) → items_at lanes.items i ≡ [] }
 {

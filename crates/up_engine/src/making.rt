@@ -28,8 +28,8 @@ use up_shape::LocalPacket;
 use up_strand::{Strand, StrandParts};
 
 impl<P: LocalPacket, S: Source, K: Sink> Net<P, S, K> {
-    /// The strands of a graph, with what was opened for them, which is taken out of the table. Where there is no memory,
-    /// all of it stands there again.
+    /// The strands of a graph, with what was opened for them, which is taken out of the table. Where
+    /// there is no memory, all of it stands there again.
     pub fn new(
         alloc: Global,
         graph: &Graph,
@@ -108,7 +108,8 @@ impl<P: LocalPacket, S: Source, K: Sink> Net<P, S, K> {
             graph.now.pipes table.old }
         ensures added { OnOk result (AddsStrand P.plain S.state K.state graph.now.pipes
             self.old self.new table.old table.new) }
-        ensures family { OnOk result ((f : P.Store.Family) → StrandsFit self.old.strands.items P.fits f
+        ensures family { OnOk result ((f : P.Store.Family)
+            → StrandsFit self.old.strands.items P.fits f
             → StrandsFit self.new.strands.items P.fits f) }
         ensures room { vec_capacity self.new.strands ≡ vec_capacity self.old.strands }
         ensures same { self.new ≡ record self.old { strands = self.new.strands } }
@@ -134,12 +135,14 @@ impl<P: LocalPacket, S: Source, K: Sink> Net<P, S, K> {
         requires plan { plan.now ≡ plan_of graph.now.pipes }
         requires stands { (past : ℕ → History)
             × StrandsStand P.plain S.state K.state graph.now.pipes self.strands.items past
-            × AreBackFrom S.state K.state graph.now.pipes (length self.strands.items) past table.old }
+            × AreBackFrom S.state K.state graph.now.pipes (length self.strands.items) past
+            table.old }
         requires family { StrandsFit self.strands.items P.fits (P.Store.state s.old).family }
         requires lanes { (i : ℕ) → items_at self.lanes.items i ≡ [] }
         ensures back { (past : ℕ → History)
             → StrandsStand P.plain S.state K.state graph.now.pipes self.strands.items past
-            → AreBackFrom S.state K.state graph.now.pipes (length self.strands.items) past table.old
+            → AreBackFrom S.state K.state graph.now.pipes (length self.strands.items) past
+            table.old
             → AreBackFrom S.state K.state graph.now.pipes 0 past table.new }
         ensures store { Stays (P.Store.state s.old) (P.Store.state s.new) }
     {

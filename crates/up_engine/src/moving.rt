@@ -45,7 +45,6 @@ impl<P: LocalPacket, S: Source, K: Sink> Net<P, S, K> {
         }
     }
 
-    /// The next item of the lane of the strand's head.
     fn take_in(&mut self, i: usize) -> Option<Item<P>>
         requires within { i < length self.old.lanes.items }
         requires some { is_some (slice_index_or self.old.lanes.items i None) ≡ true }
@@ -109,7 +108,6 @@ impl<P: LocalPacket, S: Source, K: Sink> Net<P, S, K> {
         }
     }
 
-    /// Adds an item to the lane of the strand's head.
     fn put_in(&mut self, i: usize, item: Item<P>) -> Result<(), Full<P>>
         requires within { i < length self.old.lanes.items }
         requires some { is_some (slice_index_or self.old.lanes.items i None) ≡ true }
@@ -127,7 +125,6 @@ impl<P: LocalPacket, S: Source, K: Sink> Net<P, S, K> {
         }
     }
 
-    /// Holds the strand back, which nothing holds back yet.
     fn hold_back(&mut self, i: usize)
         requires within { i < length self.old.pumps.pumps }
         requires free { blockers_at self.old.pumps i ≡ 0 }

@@ -1,6 +1,6 @@
 ghost use Rattle.std.specs.Prelude.{◌≡◌, ◌<◌, ℕ, List, length, slice_get, slice_index_or, Some, None, true, false, OnOk, OnErr, IfErr, MatchOption, IfSome};
 ghost use Rattle.up_base.specs.ItemList.{AddsItem};
-ghost use Rattle.up_engine.specs.Nets.{IsFull, NetEndsWithin, NetFits, NetStands, NetStandsForSome, RanOut, Turned, WentToRead, head_at, items_at};
+ghost use Rattle.up_engine.specs.Nets.{IsFull, NetEndsWithin, NetFits, NetStands, NetStandsForSome, RanToEnd, Turned, WentToRead, head_at, items_at};
 ghost use Rattle.up_model.specs.Plans.{heads};
 ghost use Rattle.up_model.specs.declared.pipe.Pipe.{Pipe as ThePipe};
 ghost use Rattle.up_pump.specs.Circle.{is_due_at};
@@ -56,7 +56,7 @@ impl<P: LocalPacket, S: Source, K: Sink> Net<P, S, K> {
         requires family { NetFits self.old P.fits (P.Store.state s.old).family }
         ensures ran { (pipes : List ThePipe) (past : ℕ → History)
             → NetStands P.plain S.state K.state self.old pipes past
-            → RanOut P.plain S.state K.state pipes past self.new
+            → RanToEnd P.plain S.state K.state pipes past self.new
             (P.Store.state s.old) (P.Store.state s.new) }
         ensures family { NetFits self.new P.fits (P.Store.state s.old).family }
         ensures store { Stays (P.Store.state s.old) (P.Store.state s.new) }
@@ -65,6 +65,7 @@ impl<P: LocalPacket, S: Source, K: Sink> Net<P, S, K> {
         'reads: while self.run_to_read(s) {
             ahead = ahead.lowered();
         }
+        // It shows that the loop ends, and nothing looks at what is left of it.
         let _ = ahead;
     }
 
@@ -106,7 +107,6 @@ impl<P: LocalPacket, S: Source, K: Sink> Net<P, S, K> {
         }
     }
 
-    /// One step of a strand that is due.
     fn step(&mut self, i: usize, s: &mut P::Store) -> Turn
         requires within { i < length self.old.strands.items }
         requires due { is_due_at self.old.pumps.pumps i ≡ true }

@@ -48,7 +48,6 @@ pub(crate) fn open_all<D: Depot>(
     Opening::All
 }
 
-/// Opens the path of a pipe of this kind.
 fn open_one<D: Depot>(kind: &Kind, depot: &mut D) -> Result<Object<D::Src, D::Snk>, Refusal>
     requires { is_some (path_of kind.now) ≡ true }
     ensures { OpensOne D.Src.state D.Snk.state kind.now (D.state depot.old) (D.state depot.new)

@@ -38,7 +38,6 @@ pub(crate) fn take_parts<S, K>(
     })
 }
 
-/// Takes out the source at a place, where one stands there.
 fn take_source<S, K>(table: &mut [Object<S, K>], place: usize) -> Option<S>
     requires { place < length table.old }
     ensures source { result ≡ source_in (object_at table.old place) }
@@ -55,7 +54,6 @@ fn take_source<S, K>(table: &mut [Object<S, K>], place: usize) -> Option<S>
     }
 }
 
-/// Takes out the sink at a place, where one stands there.
 fn take_sink<S, K>(table: &mut [Object<S, K>], place: usize, sinks: &mut ReservedList<K>)
     requires within { place < length table.old }
     requires room { length sinks.old.items < sinks.old.room }
@@ -72,7 +70,6 @@ fn take_sink<S, K>(table: &mut [Object<S, K>], place: usize, sinks: &mut Reserve
     }
 }
 
-/// Takes out the sinks at these places.
 fn take_sinks<S, K>(places: &PlaceList, table: &mut [Object<S, K>], sinks: &mut ReservedList<K>)
     requires apart { AreApart places.now }
     requires within { (k : ℕ) → k < length places.now
@@ -108,7 +105,6 @@ pub(crate) fn put_back<S, K>(
     put_sinks(graph, &own.pipes, table, sinks);
 }
 
-/// The source stands at its place again, where there is one.
 fn put_source<S, K>(table: &mut [Object<S, K>], place: usize, source: Option<S>)
     requires within { place < length table.old }
     requires none { object_at table.old place ≡ objects.None }

@@ -82,7 +82,6 @@ impl<S, K> Rooms<S, K> {
     }
 }
 
-/// The list, which has room for them, with these items.
 fn filled<T: Copy>(mut list: ReservedList<T>, items: &[T]) -> ItemList<T>
     requires empty { list.items ≡ [] }
     requires room { length items.now ≤ list.room }
@@ -106,7 +105,6 @@ fn order_of(alloc: Global, graph: &Graph) -> Result<Vec<u16>, NoMemory>
     Ok(sources.chain(sinks).collect(alloc)?)
 }
 
-/// Nothing is open for so many pipes.
 fn empty_table<S, K>(alloc: Global, count: usize) -> Result<Vec<Object<S, K>>, NoMemory>
     ensures { IfOk result (λ table. table.items ≡ replicate count objects.None) }
 {
@@ -117,7 +115,6 @@ fn empty_table<S, K>(alloc: Global, count: usize) -> Result<Vec<Object<S, K>>, N
     Ok(table)
 }
 
-/// Gives up a table in which nothing is open.
 fn give_up_table<S, K>(mut table: Vec<Object<S, K>>)
     requires { All IsNone table.items }
 {
@@ -130,14 +127,12 @@ fn give_up_table<S, K>(mut table: Vec<Object<S, K>>)
     table.destroy_empty();
 }
 
-/// Whether one of the outcomes tells of want of memory.
 pub(crate) fn any_no_memory(outcomes: &[Outcome]) -> bool
     ensures { result ≡ list_any is_no_memory outcomes.now }
 {
     outcomes.iter().any(is_no_memory)
 }
 
-/// Whether the outcome tells of want of memory.
 fn is_no_memory(outcome: &Outcome) -> bool
     ensures { result ≡ is_no_memory outcome.now }
 {

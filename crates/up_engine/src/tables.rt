@@ -4,9 +4,7 @@ ghost use Rattle.std.specs.List.{Contains};
 ghost use Rattle.up_engine.specs.Joins.{filler_of};
 ghost use Rattle.up_engine.specs.Parts.{AreApart};
 ghost use Rattle.up_engine.specs.Tables.{AreEmptyLanes, IsEmptyLane};
-ghost use Rattle.up_model.specs.Inputs.{passes_at};
 ghost use Rattle.up_model.specs.Plans as plans;
-ghost use Rattle.up_model.specs.Plans.{is_fed};
 ghost use Rattle.up_model.specs.WellFormed.{IsWellFormed};
 ghost use Rattle.up_plan.specs.Plan.{plan_of};
 ghost use Rattle.up_pump.specs.Pumps.{pump_at};
@@ -19,7 +17,6 @@ use up_plan::Plan;
 use up_pump::Loop;
 use up_queue::LocalLane;
 
-/// The places of the heads of all strands.
 pub(crate) fn heads_of(alloc: Global, plan: &Plan) -> Result<Vec<u16>, NoMemory>
     ensures { IfOk result (λ heads. heads.items ≡ map (λ strand. strand.head) plan.now.strands) }
 {
@@ -86,7 +83,6 @@ fn filler_of(graph: &Graph, plan: &Plan, head: u16) -> usize
     0
 }
 
-/// Whether the place is one of these.
 fn has_place(places: &PlaceList, place: u16) -> bool
     ensures { IsTrue result ↔ Contains places.now place }
 {
@@ -140,7 +136,7 @@ pub(crate) fn lanes_of<P>(
 fn lane_of<P>(alloc: Global, graph: &Graph, head: u16) -> Result<Option<LocalLane<P>>, NoMemory>
     requires well_formed { IsWellFormed graph.now.pipes }
     requires place { head < length graph.now.pipes }
-    ensures { IfOk result (IsEmptyLane (passes_at is_fed graph.now.pipes head)) }
+    ensures { IfOk result (IsEmptyLane graph.now.pipes head) }
 {
     let pipe = graph.pipes.at(usize::from(head));
     if pipe.kind.is_source() {

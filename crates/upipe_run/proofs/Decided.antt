@@ -146,12 +146,14 @@ neither true one other wanted not_one not_other is = not_one is
 neither false one other wanted not_one not_other is = not_other is
 
 -- no pipe of a run that stopped at a refused open is too long
-not_long : (pipes : List Pipe) (refused count : ℕ) (shut : ℕ → Bool) (place limit : ℕ) (pipe : Pipe) → slice_get pipes place ≡ Some pipe → (kind : Kind) → pipe.kind ≡ kind
-    → ending_refused pipes refused count shut place ≡ TooLong limit → ⊥
-not_long pipes refused count shut place limit pipe at (Source path form most) is long =
+not_long : (pipes : List Pipe) (refused : ℕ) (shut : ℕ → Bool) (place limit : ℕ) (pipe : Pipe) → slice_get pipes place ≡ Some pipe → (kind : Kind) → pipe.kind ≡ kind
+    → ending_refused pipes refused shut place ≡ TooLong limit → ⊥
+not_long pipes refused shut place limit pipe at (Source path form most) is long =
     neither _ ReadFault Broken (TooLong limit) (λ same. cc) (λ same. cc) (rw (at, is) at long)
-not_long pipes refused count shut place limit pipe at kind is long =
+not_long pipes refused shut place limit pipe at (Sink path form) is long =
     neither _ WriteFault Broken (TooLong limit) (λ same. cc) (λ same. cc) (rw (at, is) at long)
+not_long pipes refused shut place limit pipe at kind is long =
+    neither _ Broken Broken (TooLong limit) (λ same. cc) (λ same. cc) (rw (at, is) at long)
 
 -- what passes is counted
 some_counted : {X : Type 0} (test : X → Bool) (xs : List X) (x : X) → Contains xs x → test x ≡ true → 0 < count_by test xs
@@ -185,18 +187,18 @@ module _ {F : Type 0} (pipes : List Pipe) (old new : DepotState) (drew draws : S
     pub long_through : (limit : ℕ) → get_or ends place Whole ≡ TooLong limit → IsLong pipe.kind limit (ways.given place)
     long_through limit is = long_of_source pipe.kind (ways.failed place) (ways.given place) _ limit (came (TooLong limit) is)
 
-  module _ (refused count : ℕ) (shut : ℕ → Bool) (ends : List Outcome) (tallies : List Tally) (stopped : StoppedThere pipes refused count shut old new ends tallies)
+  module _ (ends : List Outcome) (tallies : List Tally) (stopped : StoppedThere pipes old new ends tallies)
       (place : ℕ) (pipe : Pipe) (at : slice_get pipes place ≡ Some pipe) where
     refused_within : place < length ends
-    refused_within = omega (arith, slice_get_within pipes place pipe at, ap length stopped.endings, each_told pipes (ending_refused pipes refused count shut))
+    refused_within = omega (arith, slice_get_within pipes place pipe at, ap length stopped.endings, each_told pipes (ending_refused pipes stopped.place stopped.shut))
 
     counted : (test : Outcome → Bool) (outcome : Outcome) → test outcome ≡ true → get_or ends place Whole ≡ outcome → 0 < count_by test ends
     counted test outcome passes is = some_counted test ends _ (Contains-get_or ends place Whole refused_within) (ap test is ∙ passes)
 
     long_refused : (limit : ℕ) → get_or ends place Whole ≡ TooLong limit → ⊥
     long_refused limit is =
-        let of = ending_refused pipes refused count shut in
-        not_long pipes refused count shut place limit pipe at pipe.kind refl
+        let of = ending_refused pipes stopped.place stopped.shut in
+        not_long pipes stopped.place stopped.shut place limit pipe at pipe.kind refl
         (sym (ends_at pipes of ends place stopped.endings (slice_get_within pipes place pipe at)) ∙ is)
 
   module _ (outcome : RunOutcome) (ran : RanGraph pipes old new drew draws outcome) where
@@ -206,7 +208,7 @@ module _ {F : Type 0} (pipes : List Pipe) (old new : DepotState) (drew draws : S
         let fault = read_told by.pipe _ name by.told in
         elim (rw by.ended at ran.to) [
           | inl (ways, through) ↦ read_through ways by.ends by.tallies through by.place by.pipe by.at fault
-          | inr (refused, count, shut, stopped) ↦ rose_once _ _ _ (counted refused count shut by.ends by.tallies stopped by.place by.pipe by.at is_read_fault ReadFault refl fault) stopped.sources
+          | inr stopped ↦ rose_once _ _ _ (counted by.ends by.tallies stopped by.place by.pipe by.at is_read_fault ReadFault refl fault) stopped.sources
         ]
 
     pub write_rose : (name : List ℕ) → endings.Faulty (faults.Write name) ≡ ending_of pipes outcome → Rose old.sink_faults new.sink_faults
@@ -215,7 +217,7 @@ module _ {F : Type 0} (pipes : List Pipe) (old new : DepotState) (drew draws : S
         let fault = write_told by.pipe _ name by.told in
         elim (rw by.ended at ran.to) [
           | inl (ways, through) ↦ write_through ways by.ends by.tallies through by.place by.pipe by.at fault
-          | inr (refused, count, shut, stopped) ↦ rose_once _ _ _ (counted refused count shut by.ends by.tallies stopped by.place by.pipe by.at is_write_fault WriteFault refl fault) stopped.sinks
+          | inr stopped ↦ rose_once _ _ _ (counted by.ends by.tallies stopped by.place by.pipe by.at is_write_fault WriteFault refl fault) stopped.sinks
         ]
 
     -- a run whose source is too long went through
@@ -238,5 +240,5 @@ module _ {F : Type 0} (pipes : List Pipe) (old new : DepotState) (drew draws : S
             at = by.at;
             source = long_through ways by.ends by.tallies through by.place by.pipe by.at limit long;
           }
-          | inr (refused, count, shut, stopped) ↦ absurd (long_refused refused count shut by.ends by.tallies stopped by.place by.pipe by.at limit long)
+          | inr stopped ↦ absurd (long_refused by.ends by.tallies stopped by.place by.pipe by.at limit long)
         ]

@@ -1,11 +1,12 @@
 -- The run of a graph file, by its text and by what the run of its graph did.
 use Rattle.std.proofs.Common.{◌≡◌, ◌⊎◌, ℕ, ◌<◌, ◌≤◌, ◌==◌, ◌||◌, List, length, map, not, Bool, true, false, Option, Some, None, IfSome, Ok, Err, inl, inr, slice_get, get_or, cond, refl, sym, ap, subst, ◌∙◌, arith}
 use Rattle.std.specs.List.{All, filter}
-use Rattle.std.specs.Option.{option_map_or}
+use Rattle.std.specs.Option.{is_some, option_map_or}
 use Rattle.std.proofs.lemmas.Bool.{eq-eqb}
-use Rattle.std.proofs.lemmas.List.Elements.{All-append, All-get_or, All-weaker, filter_passes}
+use Rattle.std.proofs.lemmas.List.Elements.{All-append, All-weaker, filter_passes}
 use Rattle.std.proofs.lemmas.Option.{get_or_from_slice_get, slice_get_within}
 use Rattle.up_base.specs.declared.refusal.Refusal.TheVariants as reads
+use Rattle.up_engine.proofs.PathPlaces.{HasPathAt, path_place_stands}
 use Rattle.up_engine.specs.Entries as of_pipes
 use Rattle.up_engine.specs.Runs.{Ways, ending, ending_refused, RanThrough, StoppedThere, RanGraph}
 use Rattle.up_engine.specs.declared.run_outcome.RunOutcome.{RunOutcome}
@@ -15,14 +16,14 @@ use Rattle.up_graph.specs.Graph.{graph_of}
 use Rattle.up_graph.specs.declared.graph_refused.GraphRefused.TheVariants as refusals
 use Rattle.up_graph.specs.declared.graph_refused.GraphRefused.{GraphRefused}
 use Rattle.up_model.proofs.Members.{passes_within}
-use Rattle.up_model.proofs.WellFormed.{there}
+use Rattle.up_model.specs.Ends.{path_of}
 use Rattle.up_model.specs.Inputs.{PipeTest, ends_at_source, passes_at, places}
 use Rattle.up_model.specs.Outcomes.{deciding, is_cause}
 use Rattle.up_model.specs.Plans.{ends_at_sink}
 use Rattle.up_model.specs.WellFormed.{IsWellFormed}
 use Rattle.up_model.specs.declared.graph.Graph.{Graph}
 use Rattle.up_model.specs.declared.kind.Kind.{Kind}
-use Rattle.up_model.specs.declared.kind.Kind.TheVariants.{Source}
+use Rattle.up_model.specs.declared.kind.Kind.TheVariants.{Source, Sink}
 use Rattle.up_model.specs.declared.outcome.Outcome.{Outcome}
 use Rattle.up_model.specs.declared.outcome.Outcome.TheVariants as outcomes
 use Rattle.up_model.specs.declared.pipe.Pipe.{Pipe}
@@ -84,14 +85,15 @@ module _ (path : List ℕ) (old new : DepotState) where
   causes_ran pipes runs.NoMemory ran = inr ran
 
 -- the pipe whose open was refused has a cause
-fault_is_cause : (pipes : List Pipe) (place count : ℕ) (shut : ℕ → Bool) (pipe : Pipe) → slice_get pipes place ≡ Some pipe → (kind : Kind) → pipe.kind ≡ kind
-    → is_cause (ending_refused pipes place count shut place) ≡ true
-fault_is_cause pipes place count shut pipe at (Source path form limit) is =
+fault_is_cause : (pipes : List Pipe) (place : ℕ) (shut : ℕ → Bool) (pipe : Pipe) → slice_get pipes place ≡ Some pipe → (kind : Kind) → pipe.kind ≡ kind
+    → is_some (path_of kind) ≡ true → is_cause (ending_refused pipes place shut place) ≡ true
+fault_is_cause pipes place shut pipe at (Source path form limit) is has_path =
     let same : (place == place) ≡ true = eq-eqb place place refl in
     rw (at, same, is) refl
-fault_is_cause pipes place count shut pipe at kind is =
+fault_is_cause pipes place shut pipe at (Sink path form) is has_path =
     let same : (place == place) ≡ true = eq-eqb place place refl in
     rw (at, same, is) refl
+fault_is_cause pipes place shut pipe at kind is has_path = absurd (cc)
 
 module _ (pipes : List Pipe) where
   within_all : (test : PipeTest) → All (λ place. place < length pipes) (filter (passes_at test pipes) (places pipes))
@@ -102,10 +104,10 @@ module _ (pipes : List Pipe) where
   pub paths_within : All (λ place. place < length pipes) (of_pipes.path_places pipes)
   paths_within = All-append (λ place. place < length pipes) _ _ (within_all ends_at_source) (within_all ends_at_sink)
 
-  place_within : (place count : ℕ) → slice_get (of_pipes.path_places pipes) count ≡ Some place → place < length pipes
-  place_within place count at =
-      let found = All-get_or (λ place. place < length pipes) (of_pipes.path_places pipes) count 0 (slice_get_within (of_pipes.path_places pipes) count place at) paths_within in
-      subst (λ (n : ℕ). n < length pipes) (get_or_from_slice_get (of_pipes.path_places pipes) count place 0 at) found
+  refused_has_path : (place count : ℕ) → slice_get (of_pipes.path_places pipes) count ≡ Some place → HasPathAt pipes place
+  refused_has_path place count at =
+      subst (HasPathAt pipes) (get_or_from_slice_get (of_pipes.path_places pipes) count place 0 at)
+      (path_place_stands pipes count (slice_get_within (of_pipes.path_places pipes) count place at))
 
 -- the endings of pipes whose run stopped at a refused open, or went through, are told of each
 module _ {F : Type 0} (pipes : List Pipe) (old new : DepotState) (drew draws : StoreState F) where
@@ -113,19 +115,20 @@ module _ {F : Type 0} (pipes : List Pipe) (old new : DepotState) (drew draws : S
   tells_of_each runs.NoMemory ran = tt
   tells_of_each (runs.Ended ends tallies) ran = elim ran.to [
     | inl (ways, through) ↦ ap length through.endings ∙ each_told pipes (ending pipes ways)
-    | inr (place, count, shut, stopped) ↦ ap length stopped.endings ∙ each_told pipes (ending_refused pipes place count shut)
+    | inr stopped ↦ ap length stopped.endings ∙ each_told pipes (ending_refused pipes stopped.place stopped.shut)
   ]
 
   -- a refused open is a cause
-  refused_told : (place count : ℕ) (shut : ℕ → Bool) (ends : List Outcome) (tallies : List Tally)
-      → StoppedThere pipes place count shut old new ends tallies → ending_told pipes ends (deciding ends) ≡ endings.Whole → ⊥
-  refused_told place count shut ends tallies stopped whole =
-      let of = ending_refused pipes place count shut in
+  refused_told : (ends : List Outcome) (tallies : List Tally) → StoppedThere pipes old new ends tallies
+      → ending_told pipes ends (deciding ends) ≡ endings.Whole → ⊥
+  refused_told ends tallies stopped whole =
+      let place = stopped.place in
+      let of = ending_refused pipes place stopped.shut in
       let each = ap length stopped.endings ∙ each_told pipes of in
       let none = none_decides pipes ends each whole in
-      let pipe = there pipes place (place_within pipes place count stopped.at) in
-      let clean = no_cause pipes of (rw stopped.endings at none) place pipe.0 pipe.1 in
-      let cause : is_cause (of place) ≡ true = fault_is_cause pipes place count shut pipe.0 pipe.1 pipe.0.kind refl in
+      let refused = refused_has_path pipes place stopped.count stopped.at in
+      let clean = no_cause pipes of (rw stopped.endings at none) place refused.pipe refused.there in
+      let cause : is_cause (of place) ≡ true = fault_is_cause pipes place stopped.shut refused.pipe refused.there refused.pipe.kind refl refused.has_path in
       absurd (let wrong : true ≡ false = sym cause ∙ clean in cc)
 
   left_whole : (ways : Ways) (ends : List Outcome) (tallies : List Tally) → RanThrough pipes ways old new drew draws ends tallies
@@ -147,7 +150,7 @@ module _ {F : Type 0} (pipes : List Pipe) (old new : DepotState) (drew draws : S
   whole_through runs.NoMemory ran whole = absurd (cc)
   whole_through (runs.Ended ends tallies) ran whole = elim ran.to [
     | inl (ways, through) ↦ record { ways = ways; ends = ends; tallies = tallies; through = through }
-    | inr (place, count, shut, stopped) ↦ absurd (refused_told place count shut ends tallies stopped whole)
+    | inr stopped ↦ absurd (refused_told ends tallies stopped whole)
   ]
 
   -- and left the whole output
@@ -156,7 +159,7 @@ module _ {F : Type 0} (pipes : List Pipe) (old new : DepotState) (drew draws : S
   ran_whole runs.NoMemory ran whole = absurd (cc)
   ran_whole (runs.Ended ends tallies) ran whole = elim ran.to [
     | inl (ways, through) ↦ left_whole ways ends tallies through whole
-    | inr (place, count, shut, stopped) ↦ absurd (refused_told place count shut ends tallies stopped whole)
+    | inr stopped ↦ absurd (refused_told ends tallies stopped whole)
   ]
 
 -- the text that was read has this graph

@@ -69,7 +69,7 @@ returns-in-Refused-clause-ran g c =
     (g.D.Depot.state c.end_run-in-Refused.new.depot) c.open_all.new.table _ c.end_run-in-Refused.result (g.P.Store.Stash.state c.args.store.now)
     (g.P.Store.Stash.state c.args.store.now) c.in-Refused.place c.at.result.now (ap (slice_get c.args.graph.now.pipes) (sym c.from-at.ensures) ∙ c.at.ensures) back
     c.in-Refused.ensures
-    (set_alike c.args.rooms.results.outcomes.items _ c.from-at.result c.in-Refused.place c.refused.result _ c.requires.rooms.endings c.from-at.ensures c.refused.ensures)
+    (set_alike c.args.rooms.results.outcomes.items _ c.from-at.result c.in-Refused.place c.fault_of.result _ c.requires.rooms.endings c.from-at.ensures c.fault_of.ensures)
     c.requires.rooms.sums c.end_run-in-Refused.ensures
 
 pub returns-in-NoMemory-clause-ran : goal.returns-in-NoMemory-clause-ran

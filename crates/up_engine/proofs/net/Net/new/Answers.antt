@@ -25,7 +25,7 @@ returns-in_err-net-clause-back g c =
     on_error _ c.from_residual.result (
       beginning reads writes pipes c.args.table.now,
       all_begin reads writes pipes c.args.table.now c.requires.there,
-      untouched reads writes pipes c.args.table.now c.requires.there,
+      untouched reads writes pipes c.args.table.now c.requires.there c.requires.well_formed,
     )
 
 pub strands-init : goal.strands-init
@@ -69,7 +69,7 @@ give_back-requires-clause-stands g c =
       beginning reads writes pipes table,
       subst (λ (strands : List (Strand _ _ _)). StrandsStand plain reads writes pipes strands (beginning reads writes pipes table)) (sym none) inv.stand,
       subst (λ (strands : List (Strand _ _ _)). AreBackFrom reads writes pipes (length strands) (beginning reads writes pipes table) c.add.new.table) (sym none)
-          (rest_back reads writes pipes table c.requires.there (length c.strands.net.strands.items) c.add.new.table
+          (rest_back reads writes pipes table c.requires.there c.requires.well_formed (length c.strands.net.strands.items) c.add.new.table
           (still_taken plain reads writes pipes table (length c.strands.net.strands.items) c.strands.table c.add.new.table inv.taken c.in-Err.ensures.back)),
     )
 
@@ -100,7 +100,7 @@ returns-in-Err-clause-back g c =
       all_back pipes reads writes past c.give_back.new.table (c.give_back.ensures.back past
           (subst (λ (strands : List (Strand _ _ _)). StrandsStand plain reads writes pipes strands past) (sym none) inv.stand)
           (subst (λ (strands : List (Strand _ _ _)). AreBackFrom reads writes pipes (length strands) past c.add.new.table) (sym none)
-          (rest_back reads writes pipes table c.requires.there (length c.strands.net.strands.items) c.add.new.table
+          (rest_back reads writes pipes table c.requires.there c.requires.well_formed (length c.strands.net.strands.items) c.add.new.table
           (still_taken plain reads writes pipes table (length c.strands.net.strands.items) c.strands.table c.add.new.table inv.taken c.in-Err.ensures.back)))),
     )
 
