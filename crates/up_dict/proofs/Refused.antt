@@ -1,10 +1,12 @@
 -- Which refusal there is, by what a look at the run tells.
-use Rattle.std.proofs.Common.{◌≡◌, ℕ, ◌<◌, ◌≤◌, ◌∙◌, List, length, true, false, None, Some, refl, sym, ap, arith}
+use Rattle.std.proofs.Common.{◌≡◌, ℕ, ◌<◌, ◌≤◌, ◌∙◌, ◌⊎◌, inl, inr, List, length, Bool, true, false, None, Some, refl, sym, ap, arith}
 use Rattle.std.proofs.lemmas.Bool.Decides.{nat_tests}
 use Rattle.std.specs.FinMap.{contains_key, len}
 use Rattle.up_model.specs.Attrs.{Attrs}
+use Rattle.up_model.specs.Value.{IsLegalValue}
 use Rattle.up_model.specs.declared.limits.TheConstants.{MAX_ATTRS, MAX_VALUE}
 use Rattle.up_model.specs.declared.value.Value.{Value}
+use Rattle.up_model.specs.declared.value.Value.TheVariants.{Void, Flag, Unsigned, Words, Opaque}
 use Rattle.up_dict.proofs.Found.{found_there, missing_there, len_held}
 use Rattle.up_dict.specs.Held.{IsRun, held_in}
 use Rattle.up_dict.specs.Places.{IsFoundAt, IsMissingAt}
@@ -25,6 +27,25 @@ module _ (held : Attrs) (name : List ℕ) where
 
   small : (value : Value) → length (value_bytes value) ≤ MAX_VALUE → refusal_of held name value ≡ refusal_of_name held name
   small value fits = grind (arith, nat_tests)
+
+-- a legal value is never too long
+legal_fits : (value : Value) → IsLegalValue value → length (value_bytes value) ≤ MAX_VALUE
+legal_fits Void legal = omega arith
+legal_fits (Flag flag) legal = omega arith
+legal_fits (Unsigned number) legal = omega arith
+legal_fits (Words text) legal = legal.1
+legal_fits (Opaque bytes) legal = legal
+
+-- what is legal and has room isn't refused
+pub taken : (held : Attrs) (name : List ℕ) (value : Value) → IsLegalValue value
+    → (contains_key held name ≡ true) ⊎ (len held < MAX_ATTRS) → refusal_of held name value ≡ None
+taken held name value legal (inl is) = small held name value (legal_fits value legal) ∙ there held name is
+taken held name value legal (inr left) =
+    small held name value (legal_fits value legal) ∙ either (contains_key held name) refl
+  where
+    either : (test : Bool) → contains_key held name ≡ test → refusal_of_name held name ≡ None
+    either true is = there held name is
+    either false is = room held name is left
 
 module _ (run name : List ℕ) (byte : ℕ) (spells : IsRun run) (value : Value) (fits : length (value_bytes value) ≤ MAX_VALUE) where
   -- a name that is found takes a value that fits

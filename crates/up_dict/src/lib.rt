@@ -18,5 +18,5 @@ mod value_type;
 
 pub use date_kind::DateKind;
 pub use dict::Dict;
-pub use laws::attributes_read_back;
+pub use laws::{attributes_read_back, what_has_room_is_taken};
 pub use set_refused::SetRefused;

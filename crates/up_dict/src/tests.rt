@@ -100,6 +100,13 @@ fn a_copy_keeps_its_own_attributes(rt: HostRuntime) -> Result<(), Fail> {
     assert_attrs(&rt, alloc, &dict, &[("x", "Unsigned(7)")])
 }
 
+/// Sets attributes that aren't there yet.
+fn set_all(rt: &impl Abort, dict: &mut Dict, values: &[(&str, ValueView<'_>, &str)]) {
+    for (name, value, _) in values {
+        assert!(rt; !set(rt, dict, name, *value));
+    }
+}
+
 #[test]
 fn each_type_comes_back_as_it_was_set(rt: HostRuntime) -> Result<(), Fail> {
     let alloc = rt.alloc();
@@ -128,9 +135,7 @@ fn each_type_comes_back_as_it_was_set(rt: HostRuntime) -> Result<(), Fail> {
             "Opaque([0, 255, 195])",
         ),
     ];
-    for (name, value, _) in values {
-        assert!(rt; !set(&rt, &mut dict, name, value));
-    }
+    set_all(&rt, &mut dict, &values);
     for (name, _, shown) in values {
         let wanted = format!(in alloc; "Some({shown})")?;
         assert_value(&rt, alloc, &dict, name, wanted.as_str())?;
