@@ -10,7 +10,7 @@ use Rattle.std.specs.List.{Contains}
 use Rattle.up_base.specs.Lists.{IsPrefix}
 use Rattle.up_model.proofs.Steps.{step_of}
 use Rattle.up_model.specs.Chain.{IsRawSink}
-use Rattle.up_model.specs.Inputs.{PipeTest, reached, reached_within, places}
+use Rattle.up_model.specs.Inputs.{PipeTest, reached, reached_within}
 use Rattle.up_model.specs.Meaning.{Doing, wholly, so_far, is_fed_by, flow_by, input_by, taken_by, bytes_by, pipe_work}
 use Rattle.up_model.specs.Packet.{Flow, joined}
 use Rattle.up_model.specs.Plans.{head_of, is_head, outlets_of, strand_of}
