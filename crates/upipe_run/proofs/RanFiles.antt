@@ -117,7 +117,7 @@ module _ {F : Type 0} (pipes : List Pipe) (old new : DepotState) (drew draws : S
   ]
 
   -- a refused open is a cause
-  refused_told : (place count : ℕ) (shut : ℕ → Bool) (ends : List Outcome) (tallies : List Tally)
+  pub refused_told : (place count : ℕ) (shut : ℕ → Bool) (ends : List Outcome) (tallies : List Tally)
       → StoppedThere pipes place count shut old new ends tallies → ending_told pipes ends (deciding ends) ≡ endings.Whole → ⊥
   refused_told place count shut ends tallies stopped whole =
       let of = ending_refused pipes place count shut in
