@@ -1,22 +1,29 @@
 -- What a line's sink was given.
-use Rattle.std.proofs.Common.{ℕ, ◌≤◌, List, [], length, take, drop, Ok, Err, sym, take-append-drop}
+use Rattle.std.proofs.Common.{ℕ, List, true, false, Ok, Err, refl, inl, inr}
 use Rattle.std.specs.Prelude.{Result, OnOk, OnErr}
 use Rattle.std.specs.Io.KnownBytes.{Appends}
-use Rattle.std.proofs.lemmas.List.{append-nil}
+use Rattle.up_base.specs.declared.refusal.Refusal.{Refusal}
+use Rattle.up_base.specs.declared.refusal.Refusal.TheVariants.{Failed, NoMemory}
+use Rattle.up_outside.specs.Counts.{CountsWhere, is_failed}
 use Rattle.up_outside.specs.States.{SinkState}
-use Rattle.upipe_run.specs.Tells.{AppendsPrefix}
+use Rattle.upipe_run.specs.Tells.{AppendsPart, WritesLine, WritesSome}
 
 module _ (old new : SinkState) (line : List ℕ) where
-  -- the first bytes of a line are a prefix of it
-  pub prefix_drained : (n : ℕ) × (n ≤ length line) × Appends old.written new.written (take n line) → AppendsPrefix old new line
-  prefix_drained wrote = (take wrote.0 line, (drop wrote.0 line, sym (take-append-drop wrote.0 line)), wrote.2)
+  -- the whole line was written
+  pub whole_line : Appends old.written new.written line → CountsWhere false old.faults new.faults → WritesLine old new line
+  whole_line wrote counts = inl (wrote, counts.stays refl)
 
-  -- so is the whole line
-  pub whole_drained : Appends old.written new.written line → AppendsPrefix old new line
-  whole_drained wrote = (line, ([], sym (append-nil line)), wrote)
+  -- the sink failed before its end
+  pub failed_line : AppendsPart old new line → CountsWhere true old.faults new.faults → WritesLine old new line
+  failed_line part counts = inr (part, counts.rose refl)
 
-  -- whatever the sink answered, a prefix of the line was written
-  pub drained : {T E : Type 0} (result : Result T E) → OnOk result (Appends old.written new.written line)
-      → OnErr result ((n : ℕ) × (n ≤ length line) × Appends old.written new.written (take n line)) → AppendsPrefix old new line
-  drained (Ok value) whole prefix = whole_drained whole
-  drained (Err refusal) whole prefix = prefix_drained prefix
+  -- memory ran out before its end
+  pub short_line : AppendsPart old new line → CountsWhere false old.faults new.faults → WritesSome old new line
+  short_line part counts = inr (part, counts.stays refl)
+
+  -- whatever the sink answered, some of the line was written
+  pub drained : {T : Type 0} (result : Result T Refusal) → OnOk result (Appends old.written new.written line) → OnErr result (AppendsPart old new line)
+      → CountsWhere (is_failed result) old.faults new.faults → WritesSome old new line
+  drained (Ok value) whole part counts = inl (whole_line whole counts)
+  drained (Err Failed) whole part counts = inl (failed_line part counts)
+  drained (Err NoMemory) whole part counts = short_line part counts

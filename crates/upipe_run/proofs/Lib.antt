@@ -1,9 +1,12 @@
 pub mod AskedTexts
+pub mod CleanRuns
 pub mod Counting
 pub mod Decided
 pub mod Deciding
 pub mod Drained
+pub mod DueFirst
 pub mod Entries
+pub mod LeftFirst
 pub mod Parts
 pub mod RanFiles
 pub mod RunLaws

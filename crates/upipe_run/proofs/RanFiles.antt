@@ -119,7 +119,7 @@ module _ {F : Type 0} (pipes : List Pipe) (old new : DepotState) (drew draws : S
   ]
 
   -- a refused open is a cause
-  refused_told : (ends : List Outcome) (tallies : List Tally) → StoppedThere pipes old new ends tallies
+  pub refused_told : (ends : List Outcome) (tallies : List Tally) → StoppedThere pipes old new ends tallies
       → ending_told pipes ends (deciding ends) ≡ endings.Whole → ⊥
   refused_told ends tallies stopped whole =
       let place = stopped.place in

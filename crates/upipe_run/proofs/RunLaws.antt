@@ -55,7 +55,7 @@ same_graph : (a b : Graph) → ◌≡◌ {A = Result Graph GraphRefused} (Ok a) 
 same_graph a b same = cc
 
 -- one text at the path has one graph
-one_graph : (before : Held) (path text : List ℕ) (graph other : Graph) → HasGraph before path graph → get before path ≡ Some text → graph_of text ≡ Ok other → graph ≡ other
+pub one_graph : (before : Held) (path text : List ℕ) (graph other : Graph) → HasGraph before path graph → get before path ≡ Some text → graph_of text ≡ Ok other → graph ≡ other
 one_graph before path text graph other has at reads =
     let same : has.text ≡ text = same_bytes has.text text (sym has.at_path ∙ at) in
     same_graph graph other (sym has.reads ∙ ap graph_of same ∙ reads)
@@ -81,15 +81,15 @@ source_not_long before kind path bytes given (Raw block) limit is at prefix long
     cc
 
 -- what is so of what is told
-of_told : (P : Held → Type 0) (held : Option Held) (before : Held) → held ≡ Some before → IfSome held P → P before
+pub of_told : (P : Held → Type 0) (held : Option Held) (before : Held) → held ≡ Some before → IfSome held P → P before
 of_told P held before is so = rw is at so
 
-abbrev moved_by : Mark → ℕ
+abbrev pub moved_by : Mark → ℕ
 moved_by Refused = 0
 moved_by Open = 0
 moved_by (Closed moved failed shut) = moved
 
-same_entries : (f g : ℕ → Entry) (places : List ℕ) → All (λ place. f place ≡ g place) places → map f places ≡ map g places
+pub same_entries : (f g : ℕ → Entry) (places : List ℕ) → All (λ place. f place ≡ g place) places → map f places ≡ map g places
 same_entries f g [] same = refl
 same_entries f g (place ∷ places) same =
     let first = All-head (λ place. f place ≡ g place) place places same in
@@ -155,7 +155,7 @@ module _ (path : List ℕ) (old new : Seen) where
   completes status runs =
       where_held (Completes path old new status) (λ before told. lacks_memory before runs.explained.ending status told runs.explained.causes runs.explained.fault_text)
 
-  refusal_status : (refusal : GraphRefused) (status : ℕ) → IsOfText refusal → (status ≡ status_of (faults.Graph refusal)) ⊎ (status ≡ 7) → (status ≡ 3) ⊎ (status ≡ 7)
+  pub refusal_status : (refusal : GraphRefused) (status : ℕ) → IsOfText refusal → (status ≡ status_of (faults.Graph refusal)) ⊎ (status ≡ 7) → (status ≡ 3) ⊎ (status ≡ 7)
   refusal_status refusals.NoMemory status of_text is = absurd of_text
   refusal_status refusal status of_text (inl same) = inl same
   refusal_status refusal status of_text (inr seven) = inr seven

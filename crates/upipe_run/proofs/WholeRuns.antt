@@ -25,7 +25,7 @@ use Rattle.up_outside.specs.Held.{Held}
 use Rattle.upipe_run.specs.WholeOutput.{IsWholeOutput, IsWholeSink, IsWholeSource, given_by}
 
 -- a source without a cause: no read failed, and its bytes are within its limit
-source_clean : (path : List ℕ) (form : SourceForm) (limit : ℕ) (failed : Bool) (bytes : List ℕ) (behind : Outcome)
+pub source_clean : (path : List ℕ) (form : SourceForm) (limit : ℕ) (failed : Bool) (bytes : List ℕ) (behind : Outcome)
     → is_cause (unwrap_or (own_outcome (Source path form limit) failed bytes) behind) ≡ false → (failed ≡ false) × (source_outcome form limit bytes ≡ Whole)
 source_clean path (Raw block) limit true bytes behind none = absurd (cc)
 source_clean path (Raw block) limit false bytes behind none =
@@ -35,7 +35,7 @@ source_clean path (Raw block) limit false bytes behind none =
     ]
 
 -- a pipe without a cause is whole by itself, or ends as its source does
-own_whole : (kind : Kind) (failed : Bool) (bytes : List ℕ) (behind : Outcome) → is_cause (unwrap_or (own_outcome kind failed bytes) behind) ≡ false
+pub own_whole : (kind : Kind) (failed : Bool) (bytes : List ℕ) (behind : Outcome) → is_cause (unwrap_or (own_outcome kind failed bytes) behind) ≡ false
     → unwrap_or (own_outcome kind failed bytes) Whole ≡ Whole
 own_whole (Source path form limit) failed bytes behind none =
     let clean = source_clean path form limit failed bytes behind none in
@@ -45,7 +45,7 @@ own_whole (Sink path form) false bytes behind none = refl
 own_whole kind failed bytes behind none = refl
 
 -- a sink without one: no write failed
-sink_clean : (path : List ℕ) (form : SinkForm) (failed : Bool) (bytes : List ℕ) (behind : Outcome)
+pub sink_clean : (path : List ℕ) (form : SinkForm) (failed : Bool) (bytes : List ℕ) (behind : Outcome)
     → is_cause (unwrap_or (own_outcome (Sink path form) failed bytes) behind) ≡ false → failed ≡ false
 sink_clean path form true bytes behind none = absurd (cc)
 sink_clean path form false bytes behind none = refl
@@ -53,7 +53,7 @@ sink_clean path form false bytes behind none = refl
 module _ (pipes : List Pipe) (ways : Ways)
     (none : (place : ℕ) (pipe : Pipe) → slice_get pipes place ≡ Some pipe → is_cause (ending pipes ways place) ≡ false) where
   -- so the source of every pipe is whole
-  source_whole : (place : ℕ) → source_outcome_at pipes ways.failed ways.given place ≡ Whole
+  pub source_whole : (place : ℕ) → source_outcome_at pipes ways.failed ways.given place ≡ Whole
   source_whole place = by (source_of pipes place)
     where
       at : (source : ℕ) (pipe : Option Pipe) → slice_get pipes source ≡ pipe

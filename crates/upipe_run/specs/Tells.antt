@@ -1,7 +1,6 @@
 -- What is printed of an ending.
-use Rattle.std.specs.Prelude.{◌≡◌, ◌≢◌, ◌⊎◌, ℕ, List}
+use Rattle.std.specs.Prelude.{◌≡◌, ◌≢◌, ◌⊎◌, ℕ, ◌<◌, List, length, take}
 use Rattle.std.specs.Io.KnownBytes.{Appends}
-use Rattle.up_base.specs.Lists.{IsPrefix}
 use Rattle.up_outside.specs.Counts.{Rose}
 use Rattle.up_outside.specs.States.{SinkState}
 use Rattle.up_report.specs.Faults.{status_of}
@@ -11,25 +10,33 @@ use Rattle.upipe_run.specs.declared.ending.Ending.{Ending}
 use Rattle.upipe_run.specs.declared.ending.Ending.TheVariants.{Whole, Faulty, NoMemory}
 
 module _ (old new : SinkState) where
-  -- what was written grew by a prefix of the line
-  abbrev pub AppendsPrefix : List ℕ → Type 0
-  AppendsPrefix line = (put : List ℕ) × IsPrefix put line × Appends old.written new.written put
+  -- what was written grew by the line, and no write failed
+  abbrev pub AppendsLine : List ℕ → Type 0
+  AppendsLine line = Appends old.written new.written line × (new.faults ≡ old.faults)
 
-  -- the line was written, or a prefix of it before the sink failed
+  -- what was written grew by the first bytes of the line, but not by all of it
+  abbrev pub AppendsPart : List ℕ → Type 0
+  AppendsPart line =
+      (n : ℕ) × (n < length line) × Appends old.written new.written (take n line)
+
+  -- the line was written, or a part of it before the sink failed
   abbrev pub WritesLine : List ℕ → Type 0
-  WritesLine line =
-      Appends old.written new.written line ⊎ (AppendsPrefix line × Rose old.faults new.faults)
+  WritesLine line = AppendsLine line ⊎ (AppendsPart line × Rose old.faults new.faults)
 
-  -- The status and the line are the fault's. Where memory runs out for the line, the status is 7, and a prefix of it or
-  -- of the line of want of memory was written.
+  -- so it was, or a part of it was written before memory ran out
+  abbrev pub WritesSome : List ℕ → Type 0
+  WritesSome line = WritesLine line ⊎ (AppendsPart line × (new.faults ≡ old.faults))
+
+  -- The status and the line are the fault's. Where memory runs out for the line, the status is 7, and some of it or of
+  -- the line of want of memory was written.
   pub record TellsFault (fault : Fault) (status : ℕ) : Type 0 where
     pub status_is : (status ≡ status_of fault) ⊎ (status ≡ 7)
     pub line : status ≢ 7 → WritesLine (fault_bytes fault)
-    pub prefix : AppendsPrefix (fault_bytes fault) ⊎ ((status ≡ 7) × AppendsPrefix no_memory_bytes)
+    pub some : WritesSome (fault_bytes fault) ⊎ ((status ≡ 7) × WritesSome no_memory_bytes)
 
   pub record TellsNoMemory (status : ℕ) : Type 0 where
     pub status_is : status ≡ 7
-    pub prefix : AppendsPrefix no_memory_bytes
+    pub some : WritesSome no_memory_bytes
 
   -- nothing is printed of a whole run
   abbrev pub TellsEnding : Ending → ℕ → Type 0

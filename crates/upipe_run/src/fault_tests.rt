@@ -195,6 +195,28 @@ fn after_a_refused_open_nothing_is_left_open(rt: HostRuntime) -> Result<(), Fail
 }
 
 #[test]
+fn after_a_read_of_the_graph_that_fails_nothing_more_is_read(rt: HostRuntime) -> Result<(), Fail> {
+    let alloc = rt.alloc();
+    for nth in 1..4 {
+        let mut depot = case_depot(alloc, b"abc")?;
+        depot.cut(100);
+        depot.fail(DepotCall::Read, "g.toml", nth)?;
+        let (status, _, faults) = told_run(&rt, alloc, &mut depot)?;
+        assert_eq!(rt; (status, faults), (4, (1, 0)), "{nth}");
+        let closed = Mark::Closed {
+            moved: 100 * u64::from(nth - 1),
+            failed: true,
+            shut: true,
+        };
+        let asked = depot.asked();
+        assert_eq!(rt; asked.len(), 1, "{nth}");
+        let told = asked.last().map(|entry| (entry.path.as_str(), entry.mark));
+        assert_eq!(rt; told, Some(("g.toml", closed)), "{nth}");
+    }
+    Ok(())
+}
+
+#[test]
 fn a_sixth_read_that_fails_leaves_the_first_block(rt: HostRuntime) -> Result<(), Fail> {
     let alloc = rt.alloc();
     let bytes = numbered_bytes(alloc, 5_000)?;

@@ -5,30 +5,36 @@ use std::alloc::Global;
 use std::string::String;
 use std::test::Fail;
 
-/// The fields of a source of `abcdef`, those of the pipe behind it, and the bytes of the sink behind that.
-const ROWS: [(&str, &str, &str); 9] = [
-    ("block = 2", "kind = 'skip', bytes = 1", "bdf"),
-    ("block = 2", "kind = 'skip', bytes = 0", "abcdef"),
-    ("block = 2", "kind = 'skip', bytes = 2", ""),
-    ("block = 2", "kind = 'skip', bytes = 3", ""),
-    ("block = 4", "kind = 'skip', bytes = 1", "bcdf"),
-    ("block = 4", "kind = 'skip', bytes = 3", "d"),
-    ("block = 1", "kind = 'idem'", "abcdef"),
-    ("block = 5", "kind = 'delattr', attr = 'x'", "abcdef"),
-    ("limit = 6", "kind = 'dup'", "abcdef"),
+/// The bytes of a source and its fields, those of the pipe behind it, and the bytes of the sink behind that.
+const ROWS: [(&str, &str, &str, &str); 10] = [
+    ("abcdefg", "block = 3", "kind = 'skip', bytes = 2", "cf"),
+    ("abcdef", "block = 2", "kind = 'skip', bytes = 1", "bdf"),
+    ("abcdef", "block = 2", "kind = 'skip', bytes = 0", "abcdef"),
+    ("abcdef", "block = 2", "kind = 'skip', bytes = 2", ""),
+    ("abcdef", "block = 2", "kind = 'skip', bytes = 3", ""),
+    ("abcdef", "block = 4", "kind = 'skip', bytes = 1", "bcdf"),
+    ("abcdef", "block = 4", "kind = 'skip', bytes = 3", "d"),
+    ("abcdef", "block = 1", "kind = 'idem'", "abcdef"),
+    (
+        "abcdef",
+        "block = 5",
+        "kind = 'delattr', attr = 'x'",
+        "abcdef",
+    ),
+    ("abcdef", "limit = 6", "kind = 'dup'", "abcdef"),
 ];
 
 #[test]
 fn each_kind_does_its_work_in_a_run(rt: HostRuntime) -> Result<(), Fail> {
     let alloc = rt.alloc();
-    for (source, between, wanted) in ROWS {
+    for (given, source, between, wanted) in ROWS {
         let text = format!(in alloc;
             "version = 1\npipe = [{{name = 'in', kind = 'source', path = 'i', {source}}},\n\
              {{name = 'mid', {between}, input = 'in'}},\n\
              {{name = 'out', kind = 'sink', input = 'mid', path = 'o'}}]\n"
         )?;
         let mut depot = depot_of(alloc, text.as_bytes())?;
-        depot.hold("i", b"abcdef")?;
+        depot.hold("i", given.as_bytes())?;
         assert_eq!(rt;
             status_of(&rt, alloc, &RUN, &mut depot)?,
             0,

@@ -1,7 +1,9 @@
 // What follows of what a run does. A law is the contract of a function that does nothing.
-ghost use Rattle.std.specs.Prelude.{◌≡◌, ◌⊎◌, ℕ, List, IfSome};
+ghost use Rattle.std.specs.Prelude.{◌≡◌, ◌⊎◌, ℕ, List, ◌++◌, IfSome, Some};
+ghost use Rattle.up_outside.specs.Held.{Held};
 ghost use Rattle.up_outside.specs.Told.{Then};
-ghost use Rattle.upipe_run.specs.Laws.{AsksAll, Completes, IsRunStatus, SettlesStatus};
+ghost use Rattle.up_outside.specs.declared.asked.Entry.{Entry as TheEntry};
+ghost use Rattle.upipe_run.specs.Laws.{AsksAll, Completes, IsRunStatus, LeavesFirst, RanClean, SettlesStatus};
 ghost use Rattle.upipe_run.specs.Runs.{Runs};
 ghost use Rattle.upipe_run.specs.Seen.{Seen};
 
@@ -25,4 +27,21 @@ pub fn runs_ask_all()
         → (status ≡ 0) ⊎ (status ≡ 8)
         → IfSome old.depot.held (λ before.
         Then (AsksAll path before) old.depot.asked new.depot.asked) }
+{}
+
+/// Where a run answers 0, each pipe came to a whole end, every path was closed without a fault, the graph file's too, and
+/// no count of faults rose.
+pub fn whole_runs_are_clean()
+    ensures { (path : List ℕ) (old new : Seen) (status : ℕ) → Runs path old new status
+        → status ≡ 0 → RanClean path old.depot new.depot }
+{}
+
+/// Whatever a run answers, at the path of each sink whose close was Ok lie the first of the bytes that it is to hold, by
+/// all that lay at the sources' paths.
+pub fn closed_sinks_hold_first_parts()
+    ensures { (path : List ℕ) (old new : Seen) (status : ℕ) (before after : Held)
+        (asked added : List TheEntry) → Runs path old new status
+        → old.depot.held ≡ Some before → new.depot.held ≡ Some after
+        → old.depot.asked ≡ Some asked → new.depot.asked ≡ Some (asked ++ added)
+        → LeavesFirst path before after added }
 {}

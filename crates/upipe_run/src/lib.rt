@@ -10,7 +10,10 @@ mod program;
 mod tell;
 
 pub use ending::Ending;
-pub use laws::{runs_ask_all, runs_complete, runs_have_statuses};
+pub use laws::{
+    closed_sinks_hold_first_parts, runs_ask_all, runs_complete, runs_have_statuses,
+    whole_runs_are_clean,
+};
 pub use program::{run, run_single};
 
 #[cfg(test)]

@@ -91,7 +91,7 @@ fn a_single_run_is_the_run_of_its_path(rt: HostRuntime) -> Result<(), Fail> {
 }
 
 /// Graph texts, what a run of each tells, and what `o` then has, where `i` has eleven bytes and `o` had `old`.
-const TOLD: [(&str, u8, &str, &str); 14] = [
+const TOLD: [(&str, u8, &str, &str); 17] = [
     (
         "version = 1\npipe = [{name = 'in', kind = 'source', path = 'i'}, \
             {name = 'in', kind = 'sink', input = 'in', path = 'o'}]",
@@ -119,6 +119,30 @@ const TOLD: [(&str, u8, &str, &str); 14] = [
             {name = 'out', kind = 'sink', input = 'in', path = 'o'}]",
         3,
         "upipe: graph: pipe 2: path used twice\n",
+        "old",
+    ),
+    (
+        "version = 1\npipe = [{name = 'a', kind = 'idem', input = 'b'}, \
+            {name = 'b', kind = 'idem', input = 'a'}]",
+        3,
+        "upipe: graph: pipe 1: cycle\n",
+        "old",
+    ),
+    (
+        "version = 1\npipe = [{name = 'in', kind = 'source', path = 'i'}, \
+            {name = 'in2', kind = 'source', path = 'j'}, \
+            {name = 'out', kind = 'sink', input = ['in', 'in2'], path = 'o'}]",
+        3,
+        "upipe: graph: pipe 3: more than one input\n",
+        "old",
+    ),
+    (
+        "version = 1\npipe = [{name = 'in', kind = 'source', path = 'i'}, \
+            {name = 'out', kind = 'sink', input = 'in', path = 'o'}, \
+            {name = 'again', kind = 'sink', input = 'in2', path = 'o'}, \
+            {name = 'in2', kind = 'source', path = 'j'}]",
+        3,
+        "upipe: graph: pipe 3: path used twice\n",
         "old",
     ),
     (

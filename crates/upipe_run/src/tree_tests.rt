@@ -136,6 +136,37 @@ fn a_branch_whose_read_fails_leaves_the_other_whole(rt: HostRuntime) -> Result<(
     Ok(())
 }
 
+/// Two sources, each with a sink of its own.
+const TWO: [&str; 4] = [
+    "name = 'in', kind = 'source', path = 'i', block = 2",
+    "name = 'out', kind = 'sink', input = 'in', path = 'o'",
+    "name = 'in2', kind = 'source', path = 'j'",
+    "name = 'out2', kind = 'sink', input = 'in2', path = 'p'",
+];
+
+#[test]
+fn a_second_read_that_fails_leaves_one_block_and_the_other_branch_whole(
+    rt: HostRuntime,
+) -> Result<(), Fail> {
+    let alloc = rt.alloc();
+    for first in 0..4 {
+        let text = pipes_text(alloc, &TWO, first, 1)?;
+        let mut depot = depot_of(alloc, text.as_bytes())?;
+        depot.hold("i", b"abcd")?;
+        depot.hold("j", b"xyz")?;
+        depot.cut(2);
+        depot.fail(DepotCall::Read, "i", 2)?;
+        let mut err = MemSink::new(alloc);
+        let status = told_status_of(&rt, alloc, &RUN, &mut depot, &mut err)?;
+        assert_eq!(rt; status, 4);
+        assert_eq!(rt; err.bytes(), b"upipe: read fault: pipe in\n".as_slice());
+        assert_holds(&rt, &depot, "o", "ab");
+        assert_holds(&rt, &depot, "p", "xyz");
+        assert_eq!(rt; (depot.source_faults(), depot.sink_faults()), (1, 0));
+    }
+    Ok(())
+}
+
 #[test]
 fn a_sink_that_fails_stops_no_other(rt: HostRuntime) -> Result<(), Fail> {
     let alloc = rt.alloc();

@@ -1,5 +1,5 @@
 use Rattle.std.proofs.Common.{refl, subst}
-use Rattle.upipe_run.specs.Tells.{AppendsPrefix}
+use Rattle.upipe_run.specs.Tells.{WritesSome}
 use Rattle.upipe_run.proofs.Drained.{drained}
 use Rattle.upipe_run.proofs.tell.tell_no_memory.Goals as goal
 
@@ -9,5 +9,6 @@ returns g c =
     let new = g.E.Sink.state c.drain.new.sink in
     record {
       status_is = refl;
-      prefix = subst (AppendsPrefix old new) c.as_bytes.ensures.value (drained old new _ c.drain.result c.drain.ensures.whole c.drain.ensures.prefix);
+      some = subst (WritesSome old new) c.as_bytes.ensures.value
+          (drained old new _ c.drain.result c.drain.ensures.whole c.drain.ensures.part c.drain.ensures.faults);
     }
