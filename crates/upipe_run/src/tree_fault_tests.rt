@@ -1,4 +1,8 @@
 // Runs of a graph with several branches in which calls on the outside fail.
+ghost use Rattle.std.specs.Prelude.{All, IfOk};
+ghost use Rattle.up_model.specs.Packet.{IsLegal};
+ghost use Rattle.up_model.specs.WellFormed.{IsWellFormed};
+
 use crate::tests::{RUN, told_status_of};
 use crate::tree_tests::{TREE, pipes_text, tree_depot};
 use std::alloc::Global;
@@ -6,10 +10,10 @@ use std::process::Abort;
 use std::sync::Wait;
 use std::test::Fail;
 use std::thread::Threads;
-use up_base::Bytes;
+use up_base::{Bytes, NoMemory};
 use up_graph::read_graph;
-use up_model::{GivenBytes, plain_output};
-use up_outside::{DepotCall, MemDepot, MemSink};
+use up_model::{GivenBytes, Graph, PacketList, plain_out, plain_output, plain_sink, plain_source};
+use up_outside::{DepotCall, Mark, MemDepot, MemSink};
 
 /// The bytes at `a` and at `b`.
 const GIVEN: [&str; 2] = ["abcdefghijklm", "0123456789ABCDEF"];
@@ -60,7 +64,7 @@ enum Left {
     Empty,
     /// All of its bytes.
     Whole,
-    /// The first of them.
+    /// The first of them: of a failed read what is settled, as `assert_settled` has it.
     First,
     /// Anything: the close of the sink itself was refused.
     Any,
@@ -96,6 +100,97 @@ fn is_left(left: Left, bytes: &[u8], meant: &[u8]) -> bool {
     }
 }
 
+/// What the pipe at a place puts out of the first bytes of its source, where more may come and the source is reached in
+/// fewer steps than these.
+fn settled_within(
+    alloc: Global,
+    graph: &Graph,
+    bytes: &[u8],
+    steps: usize,
+    place: usize,
+) -> Result<PacketList, NoMemory>
+    requires well_formed { IsWellFormed graph.now.pipes }
+    ensures legal { IfOk result (All IsLegal) }
+{
+    if steps == 0 || graph.pipes.len() <= place || graph.pipes.at(place).kind.is_sink() {
+        return Ok(PacketList::new(alloc));
+    }
+    if graph.pipes.at(place).kind.is_source() {
+        return plain_source(alloc, graph, place, bytes, false);
+    }
+    match graph.pipes.at(place).input {
+        None => plain_out(alloc, graph, place, &PacketList::new(alloc), false),
+        Some(input) => {
+            let taken = settled_within(alloc, graph, bytes, steps - 1, usize::from(input))?;
+            plain_out(alloc, graph, place, &taken, false)
+        }
+    }
+}
+
+/// The bytes of the sink at a place that are settled by the first bytes of its source.
+fn settled_bytes(
+    rt: &impl Abort,
+    alloc: Global,
+    graph: &Graph,
+    bytes: &[u8],
+    sink: usize,
+) -> Result<Bytes, Fail> {
+    assert!(rt; graph.is_well_formed());
+    assert!(rt; sink < graph.pipes.len() && graph.pipes.at(sink).kind.is_sink());
+    let taken = match graph.pipes.at(sink).input {
+        None => PacketList::new(alloc),
+        Some(input) => {
+            settled_within(alloc, graph, bytes, graph.pipes.len(), usize::from(input))?
+        }
+    };
+    Ok(plain_sink(alloc, graph, sink, &taken)?)
+}
+
+/// How many bytes were moved at a path, by its entry.
+fn moved_at(depot: &MemDepot, path: &str) -> Option<u64> {
+    let entry = depot
+        .asked()
+        .iter()
+        .find(|entry| entry.path.as_str() == path)?;
+    match entry.mark {
+        Mark::Closed { moved, .. } => Some(moved),
+        Mark::Open | Mark::Refused => None,
+    }
+}
+
+/// Each sink behind a source has what is settled by the bytes that the source's entry says it moved.
+fn assert_settled(
+    rt: &impl Abort,
+    alloc: Global,
+    depot: &MemDepot,
+    source: &str,
+) -> Result<(), Fail> {
+    let (given, sinks): (&str, &[(&str, usize)]) = match source {
+        "a" => (GIVEN[0], &[("t", 0), ("w", 4)]),
+        "b" => (GIVEN[1], &[("c", 7)]),
+        _ => return Ok(()),
+    };
+    let moved = moved_at(depot, source).ok_or("the source has no entry")?;
+    let count = usize::try_from(moved)
+        .ok()
+        .ok_or("too many bytes were moved")?;
+    let first = given
+        .as_bytes()
+        .get(..count)
+        .ok_or("more was moved than lay there")?;
+    let text = pipes_text(alloc, &TREE, 0, 1)?;
+    let graph = read_graph(alloc, text.as_bytes())?;
+    for (sink, place) in sinks {
+        let settled = settled_bytes(rt, alloc, &graph, first, *place)?;
+        assert_eq!(rt;
+            depot.bytes(sink),
+            Some(settled.as_slice()),
+            "{source} {count}: {sink}"
+        );
+    }
+    Ok(())
+}
+
 /// Lets each call of one sort on a path fail, one in each run, until a run makes no such call.
 fn assert_each_told<R: Abort + Threads + Wait + Sync>(
     rt: &R,
@@ -107,11 +202,11 @@ fn assert_each_told<R: Abort + Threads + Wait + Sync>(
 ) -> Result<(), Fail> {
     for nth in 1..64 {
         let mut depot = tree_depot(alloc, GIVEN[0].as_bytes(), GIVEN[1].as_bytes())?;
-        depot.cut(if path == "g.toml" { 100 } else { 3 });
+        depot.cut(if path == "g.toml" { 100 } else { 1 });
         depot.fail(call, path, nth)?;
         let mut err = MemSink::new(alloc);
         let status = told_status_of(rt, alloc, &RUN, &mut depot, &mut err)?;
-        let made = depot.source_faults() + depot.sink_faults() > 0;
+        let made = depot.source_faults() > 0 || depot.sink_faults() > 0;
         let (told, line) = if made { wanted } else { (0, "") };
         assert_eq!(rt; status, told, "{call:?} {path} {nth}");
         assert_eq!(rt; err.bytes(), line.as_bytes(), "{call:?} {path} {nth}");
@@ -126,6 +221,9 @@ fn assert_each_told<R: Abort + Threads + Wait + Sync>(
                 is_left(left, found, bytes.as_slice()),
                 "{call:?} {path} {nth}: {sink}"
             );
+        }
+        if made && call == DepotCall::Read {
+            assert_settled(rt, alloc, &depot, path)?;
         }
         if !made {
             assert!(rt; nth > 1, "{call:?} {path} never failed");
