@@ -1,0 +1,46 @@
+-- The one spelling of a packet as a frame (docs/FRAMES.md). All numbers are big endian.
+use Rattle.std.specs.Prelude.{ℕ, true, false, List, [], ◌∷◌, ◌++◌, length}
+use Rattle.std.specs.List.{flat_map}
+use Rattle.std.specs.FinMap.{entries, len}
+use Rattle.up_base.specs.Number.{big_endian_bytes}
+use Rattle.up_frame.specs.declared.layout.TheConstants.{MARK, VERSION}
+use Rattle.up_model.specs.Packet.{PlainPacket, Flow}
+use Rattle.up_model.specs.declared.value.Value.{Value}
+use Rattle.up_model.specs.declared.value.Value.TheVariants.{Void, Flag, Unsigned, Words, Opaque}
+
+-- the number of a value's type
+abbrev pub type_of : Value → ℕ
+type_of Void = 1
+type_of (Flag flag) = 2
+type_of (Unsigned number) = 3
+type_of (Words text) = 4
+type_of (Opaque bytes) = 5
+
+abbrev pub value_bytes : Value → List ℕ
+value_bytes Void = []
+value_bytes (Flag false) = 0 ∷ []
+value_bytes (Flag true) = 1 ∷ []
+value_bytes (Unsigned number) = big_endian_bytes 8 number
+value_bytes (Words text) = text
+value_bytes (Opaque bytes) = bytes
+
+-- in four bytes how many there are, and then the bytes
+abbrev pub sized : List ℕ → List ℕ
+sized bytes = big_endian_bytes 4 (length bytes) ++ bytes
+
+-- the name behind its length, the type, and the value behind its length
+abbrev pub attribute_bytes : List ℕ × Value → List ℕ
+attribute_bytes attribute =
+    length attribute.0 ∷ attribute.0 ++ type_of attribute.1 ∷ sized (value_bytes attribute.1)
+
+-- the mark, the version, how many attributes and how many bytes there are, and then these
+abbrev pub frame_of : PlainPacket → List ℕ
+frame_of packet =
+    MARK ∷ VERSION ∷ big_endian_bytes 2 (len packet.attrs)
+    ++ big_endian_bytes 4 (length packet.bytes)
+    ++ flat_map attribute_bytes (entries packet.attrs)
+    ++ packet.bytes
+
+-- the frames of the packets, one after the other
+abbrev pub frames_of : Flow → List ℕ
+frames_of flow = flat_map frame_of flow
