@@ -1,4 +1,4 @@
-pub mod Examples
 pub mod Fronts
 pub mod Spelling
 pub mod Streams
+pub mod Types

@@ -3,19 +3,14 @@ use Rattle.std.specs.Prelude.{ℕ, true, false, List, [], ◌∷◌, ◌++◌, l
 use Rattle.std.specs.List.{flat_map}
 use Rattle.std.specs.FinMap.{entries, len}
 use Rattle.up_base.specs.Number.{big_endian_bytes}
+use Rattle.up_frame.specs.Types.{number_of, type_of}
 use Rattle.up_frame.specs.declared.layout.TheConstants.{MARK, VERSION}
-use Rattle.up_model.specs.Packet.{PlainPacket, Flow}
+use Rattle.up_model.specs.Packet.{Flow}
+use Rattle.up_model.specs.declared.plain_packet.PlainPacket.{PlainPacket}
 use Rattle.up_model.specs.declared.value.Value.{Value}
 use Rattle.up_model.specs.declared.value.Value.TheVariants.{Void, Flag, Unsigned, Words, Opaque}
 
--- the number of a value's type
-abbrev pub type_of : Value → ℕ
-type_of Void = 1
-type_of (Flag flag) = 2
-type_of (Unsigned number) = 3
-type_of (Words text) = 4
-type_of (Opaque bytes) = 5
-
+-- the bytes of the value
 abbrev pub value_bytes : Value → List ℕ
 value_bytes Void = []
 value_bytes (Flag false) = 0 ∷ []
@@ -31,13 +26,17 @@ sized bytes = big_endian_bytes 4 (length bytes) ++ bytes
 -- the name behind its length, the type, and the value behind its length
 abbrev pub attribute_bytes : List ℕ × Value → List ℕ
 attribute_bytes attribute =
-    length attribute.0 ∷ attribute.0 ++ type_of attribute.1 ∷ sized (value_bytes attribute.1)
+    length attribute.0 ∷ attribute.0
+    ++ number_of (type_of attribute.1) ∷ sized (value_bytes attribute.1)
 
--- the mark, the version, how many attributes and how many bytes there are, and then these
+-- the mark, the version, and how many attributes and bytes there are
+abbrev pub head_bytes : ℕ → ℕ → List ℕ
+head_bytes count size = MARK ∷ VERSION ∷ big_endian_bytes 2 count ++ big_endian_bytes 4 size
+
+-- the head, the attributes in the order of their names, and the bytes
 abbrev pub frame_of : PlainPacket → List ℕ
 frame_of packet =
-    MARK ∷ VERSION ∷ big_endian_bytes 2 (len packet.attrs)
-    ++ big_endian_bytes 4 (length packet.bytes)
+    head_bytes (len packet.attrs) (length packet.bytes)
     ++ flat_map attribute_bytes (entries packet.attrs)
     ++ packet.bytes
 

@@ -1,11 +1,11 @@
 -- Bytes as frames: the whole ones at the front, where the rest begins, and what is wrong with it.
-use Rattle.std.specs.Prelude.{◌≡◌, ℕ, zero, suc, ◌+◌, ◌-◌, ⊥, List, [], ◌∷◌, ◌++◌, length, Option, Some, None, Result, Ok, Err}
+use Rattle.std.specs.Prelude.{◌≡◌, ℕ, zero, suc, ◌-◌, List, [], ◌∷◌, ◌++◌, length, Option, Some, None, Ok, Err}
 use Rattle.up_base.specs.Lists.{IsPrefix}
 use Rattle.up_frame.specs.Fronts.{Front, packet_at}
-use Rattle.up_frame.specs.Spelling.{frame_of, frames_of}
-use Rattle.up_frame.specs.declared.layout.NotWhole.{NotWhole}
+use Rattle.up_frame.specs.Spelling.{frame_of}
 use Rattle.up_frame.specs.declared.layout.NotWhole.TheVariants.{Broken, Unfinished}
-use Rattle.up_model.specs.Packet.{PlainPacket, Flow, IsLegal}
+use Rattle.up_model.specs.Packet.{Flow, IsLegal}
+use Rattle.up_model.specs.declared.plain_packet.PlainPacket.{PlainPacket}
 
 -- the bytes are the frames of legal packets, and the rest
 abbrev pub IsFramed : List ℕ → Flow → List ℕ → Type 0

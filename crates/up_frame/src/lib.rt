@@ -1,6 +1,6 @@
-//! Packets as frames: the one spelling of a packet, and a reader of frames that come in any pieces.
+//! Packets as frames: the one spelling of a packet, and what stands at the front of bytes.
 #![tactic(auto)]
 
 mod layout;
 
-pub use layout::{MARK, NotWhole, VERSION};
+pub use layout::{MARK, NotWhole, VERSION, ValueType};
