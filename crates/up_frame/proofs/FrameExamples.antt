@@ -1,5 +1,5 @@
 -- Worked examples of frames, computed.
-use Rattle.std.proofs.Common.{◌≡◌, ℕ, List, [], ◌∷◌, ◌++◌, length, Bool, true, Some, None, Ok, Err, take, refl, sym, ap, ◌∙◌}
+use Rattle.std.proofs.Common.{◌≡◌, ℕ, List, [], ◌∷◌, ◌++◌, length, Bool, true, Some, None, Ok, Err, map, replicate, take, refl, sym, ap, ◌∙◌}
 use Rattle.std.specs.FinMap.{len, entries, empty, entries-from_sorted}
 use Rattle.std.specs.List.{flat_map}
 use Rattle.std.specs.Prelude.{codes}
@@ -53,6 +53,12 @@ two_bytes_back = ap (λ packet. Ok (packet, 9 ∷ [])) (sym (bare (codes "ab")))
 pub one_attribute_back : packet_at hi ≡ Ok (with x (codes "hi"), [])
 unfolding packet_at content_at attributes_at attribute_at value_at
 one_attribute_back = refl
+
+-- each front of the first frame is unfinished
+pub fronts_are_unfinished :
+    map (λ size. packet_at (take size ab)) (0 ∷ 1 ∷ 2 ∷ 3 ∷ 4 ∷ 5 ∷ 6 ∷ 7 ∷ 8 ∷ 9 ∷ []) ≡ replicate 10 (Err Unfinished)
+unfolding packet_at content_at attributes_at
+fronts_are_unfinished = refl
 
 -- 65 attributes are too many at once, and so are 1,048,577 bytes
 pub too_many_attributes : packet_at (0x46 ∷ 1 ∷ 0 ∷ 0x41 ∷ []) ≡ Err Broken

@@ -1,1 +1,3 @@
+pub mod AttrBytes
 pub mod FrameExamples
+pub mod Parts

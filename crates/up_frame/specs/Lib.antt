@@ -2,3 +2,4 @@ pub mod Fronts
 pub mod Spelling
 pub mod Streams
 pub mod Types
+pub mod Writing

@@ -23,11 +23,17 @@ value_bytes (Opaque bytes) = bytes
 abbrev pub sized : List ℕ → List ℕ
 sized bytes = big_endian_bytes 4 (length bytes) ++ bytes
 
--- the name behind its length, the type, and the value behind its length
+-- a name behind its length
+abbrev pub named : List ℕ → List ℕ
+named name = length name ∷ name
+
+-- a value behind the number of its type and its length
+abbrev pub typed : Value → List ℕ
+typed value = number_of (type_of value) ∷ sized (value_bytes value)
+
+-- an attribute: its name and its value
 abbrev pub attribute_bytes : List ℕ × Value → List ℕ
-attribute_bytes attribute =
-    length attribute.0 ∷ attribute.0
-    ++ number_of (type_of attribute.1) ∷ sized (value_bytes attribute.1)
+attribute_bytes attribute = named attribute.0 ++ typed attribute.1
 
 -- the mark, the version, and how many attributes and bytes there are
 abbrev pub head_bytes : ℕ → ℕ → List ℕ

@@ -2,5 +2,7 @@
 #![tactic(auto)]
 
 mod layout;
+mod writing;
 
 pub use layout::{MARK, NotWhole, VERSION, ValueType};
+pub use writing::write_frame;
