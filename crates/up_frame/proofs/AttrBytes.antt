@@ -41,10 +41,10 @@ pub part_there : (old between new : List ℕ) (list : List Attr) (place : ℕ) (
     → AddsPart old new (flat_map attribute_bytes list)
 part_there old between new list place attr there before part =
     let whole : flat_map attribute_bytes (take (place + 1) list) ++ flat_map attribute_bytes (drop (place + 1) list) ≡ flat_map attribute_bytes list =
-        sym (flat_map-append attribute_bytes (take (place + 1) list) (drop (place + 1) list))
-        ∙ ap (flat_map attribute_bytes) (take-append-drop (place + 1) list) in
+    sym (flat_map-append attribute_bytes (take (place + 1) list) (drop (place + 1) list))
+    ∙ ap (flat_map attribute_bytes) (take-append-drop (place + 1) list) in
     let joined : (flat_map attribute_bytes (take place list) ++ attribute_bytes attr) ++ flat_map attribute_bytes (drop (place + 1) list) ≡ flat_map attribute_bytes list =
-        ap (λ front. front ++ flat_map attribute_bytes (drop (place + 1) list)) (sym (one_more list place attr there)) ∙ whole in
+    ap (λ front. front ++ flat_map attribute_bytes (drop (place + 1) list)) (sym (one_more list place attr there)) ∙ whole in
     subst (AddsPart old new) joined
     (of_first old new (flat_map attribute_bytes (take place list) ++ attribute_bytes attr) (flat_map attribute_bytes (drop (place + 1) list))
     (of_second old between new (flat_map attribute_bytes (take place list)) (attribute_bytes attr) before part))

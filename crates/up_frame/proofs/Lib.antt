@@ -1,3 +1,5 @@
 pub mod AttrBytes
+pub mod Fields
 pub mod FrameExamples
 pub mod Parts
+pub mod Values

@@ -6,3 +6,6 @@ mod writing;
 
 pub use layout::{MARK, NotWhole, VERSION, ValueType};
 pub use writing::write_frame;
+
+#[cfg(test)]
+mod tests;

@@ -21,7 +21,9 @@ fn put_head(count: u16, size: u32, out: &mut Bytes) -> Result<(), NoMemory>
 {
     let count = count.to_be_bytes();
     let size = size.to_be_bytes();
-    out.append(&[MARK, VERSION, count[0], count[1], size[0], size[1], size[2], size[3]])
+    out.append(&[
+        MARK, VERSION, count[0], count[1], size[0], size[1], size[2], size[3],
+    ])
 }
 
 /// Adds a name behind its length.

@@ -1,0 +1,158 @@
+ghost use Rattle.std.specs.Prelude.{◌≡◌, ◌≤◌, length, IfOk};
+ghost use Rattle.up_model.specs.Packet.{IsLegal};
+ghost use Rattle.up_model.specs.Value.{lent, IsLegalValue};
+ghost use Rattle.up_shape.specs.VecPackets.{plain_of};
+
+use crate::{MARK, VERSION, write_frame};
+use std::alloc::Global;
+use std::process::Abort;
+use std::test::Fail;
+use up_base::{AttrName, Bytes};
+use up_model::{MAX_ATTRS, MAX_PACKET, ValueView, packets_stay_legal};
+use up_shape::{LocalPacket, VecPacket, VecStore};
+
+/// A packet of these bytes, without attributes.
+fn fresh(rt: &impl Abort, alloc: Global, bytes: &[u8]) -> VecPacket
+    ensures { IsLegal (plain_of result) }
+{
+    packets_stay_legal();
+    assert!(rt; bytes.len() <= MAX_PACKET as usize);
+    VecPacket::fresh(bytes, &mut VecStore::new(alloc)).expect(rt, "no memory")
+}
+
+/// Gives the packet one attribute more.
+fn set_attr(rt: &impl Abort, packet: &mut VecPacket, name: &str, value: ValueView<'_>)
+    requires value { IsLegalValue (lent value) }
+    requires legal { IsLegal (plain_of packet.old) }
+    ensures { IsLegal (plain_of packet.new) }
+{
+    packets_stay_legal();
+    let name = AttrName::read(name.as_bytes()).expect(rt, "no name");
+    assert!(rt; !name.bytes().is_empty());
+    assert!(rt; packet.attr_count() < MAX_ATTRS);
+    packet.set_attr(&name, value).expect(rt, "no memory");
+}
+
+/// The frame of the packet, behind a byte that stood there before.
+fn assert_frame(
+    rt: &impl Abort,
+    alloc: Global,
+    packet: &VecPacket,
+    wanted: &[u8],
+) -> Result<(), Fail>
+    requires { IsLegal (plain_of packet.now) }
+{
+    let mut out = Bytes::from_slice(alloc, &[9])?;
+    assert_eq!(rt; write_frame(packet, &mut out), Ok(()));
+    let out = out.as_slice();
+    assert_eq!(rt; out.len(), wanted.len() + 1);
+    assert_eq!(rt; out[0], 9);
+    assert_eq!(rt; &out[1..], wanted);
+    Ok(())
+}
+
+#[test]
+fn a_frame_begins_with_its_mark_and_version(rt: HostRuntime) -> Result<(), Fail> {
+    assert_eq!(rt; (MARK, VERSION), (70, 1));
+    let packet = fresh(&rt, rt.alloc(), b"ab");
+    assert_frame(
+        &rt,
+        rt.alloc(),
+        &packet,
+        &[0x46, 1, 0, 0, 0, 0, 0, 2, 97, 98],
+    )
+}
+
+#[test]
+fn a_packet_without_bytes_has_a_frame_of_eight(rt: HostRuntime) -> Result<(), Fail> {
+    let packet = fresh(&rt, rt.alloc(), b"");
+    assert_frame(&rt, rt.alloc(), &packet, &[0x46, 1, 0, 0, 0, 0, 0, 0])
+}
+
+#[test]
+fn an_attribute_stands_before_the_bytes(rt: HostRuntime) -> Result<(), Fail> {
+    let mut packet = fresh(&rt, rt.alloc(), b"hi");
+    set_attr(&rt, &mut packet, "x", ValueView::Unsigned(7));
+    let wanted = [
+        0x46, 1, 0, 1, 0, 0, 0, 2, 1, 0x78, 3, 0, 0, 0, 8, 0, 0, 0, 0, 0, 0, 0, 7, 0x68, 0x69,
+    ];
+    assert_frame(&rt, rt.alloc(), &packet, &wanted)
+}
+
+#[test]
+fn values_of_each_type_stand_in_the_order_of_their_names(rt: HostRuntime) -> Result<(), Fail> {
+    let mut packet = fresh(&rt, rt.alloc(), &[255]);
+    let text = "\u{e9}";
+    let bytes = [0, 255];
+    assert!(rt; text.len() <= 4096 && bytes.len() <= 4096);
+    set_attr(&rt, &mut packet, "e", ValueView::Opaque(&bytes));
+    set_attr(&rt, &mut packet, "d", ValueView::Words(text));
+    set_attr(
+        &rt,
+        &mut packet,
+        "c",
+        ValueView::Unsigned(0x0102_0304_0506_0708),
+    );
+    set_attr(&rt, &mut packet, "bb", ValueView::Flag(false));
+    set_attr(&rt, &mut packet, "b", ValueView::Flag(true));
+    set_attr(&rt, &mut packet, "a", ValueView::Void);
+    let wanted = [
+        0x46, 1, 0, 6, 0, 0, 0, 1, 1, 0x61, 1, 0, 0, 0, 0, 1, 0x62, 2, 0, 0, 0, 1, 1, 2, 0x62,
+        0x62, 2, 0, 0, 0, 1, 0, 1, 0x63, 3, 0, 0, 0, 8, 1, 2, 3, 4, 5, 6, 7, 8, 1, 0x64, 4, 0, 0,
+        0, 2, 0xc3, 0xa9, 1, 0x65, 5, 0, 0, 0, 2, 0, 255, 255,
+    ];
+    assert_frame(&rt, rt.alloc(), &packet, &wanted)
+}
+
+/// The names of 64 attributes, in their order.
+const NAMES: [&str; 64] = [
+    "a0", "a1", "a2", "a3", "a4", "a5", "a6", "a7", "b0", "b1", "b2", "b3", "b4", "b5", "b6", "b7",
+    "c0", "c1", "c2", "c3", "c4", "c5", "c6", "c7", "d0", "d1", "d2", "d3", "d4", "d5", "d6", "d7",
+    "e0", "e1", "e2", "e3", "e4", "e5", "e6", "e7", "f0", "f1", "f2", "f3", "f4", "f5", "f6", "f7",
+    "g0", "g1", "g2", "g3", "g4", "g5", "g6", "g7", "h0", "h1", "h2", "h3", "h4", "h5", "h6", "h7",
+];
+
+/// Gives the packet void attributes of these names, the last one first.
+fn set_all(rt: &impl Abort, packet: &mut VecPacket, names: &[&str])
+    requires { IsLegal (plain_of packet.old) }
+    ensures { IsLegal (plain_of packet.new) }
+{
+    for name in names.iter().rev() {
+        set_attr(rt, packet, name, ValueView::Void);
+    }
+}
+
+/// Adds the bytes of void attributes of these names.
+fn add_voids(out: &mut Vec<u8>, names: &[&str]) -> Result<(), Fail> {
+    for name in names {
+        out.push(2)?;
+        out.extend_from_slice(name.as_bytes())?;
+        out.extend_from_slice(&[1, 0, 0, 0, 0])?;
+    }
+    Ok(())
+}
+
+#[test]
+fn a_packet_of_64_attributes_is_written(rt: HostRuntime) -> Result<(), Fail> {
+    let mut packet = fresh(&rt, rt.alloc(), b"");
+    set_all(&rt, &mut packet, &NAMES);
+    let mut wanted = Vec::from_slice(rt.alloc(), &[0x46, 1, 0, 64, 0, 0, 0, 0])?;
+    add_voids(&mut wanted, &NAMES)?;
+    assert_eq!(rt; wanted.len(), 520);
+    assert_frame(&rt, rt.alloc(), &packet, &wanted)
+}
+
+#[test]
+fn the_greatest_packet_and_value_are_written(rt: HostRuntime) -> Result<(), Fail> {
+    let alloc = rt.alloc();
+    let bytes = vec![in alloc; 7; 1_048_576]?;
+    let value = vec![in alloc; 8; 4096]?;
+    let mut packet = fresh(&rt, alloc, &bytes);
+    assert!(rt; value.len() <= 4096);
+    set_attr(&rt, &mut packet, "x", ValueView::Opaque(&value));
+    let head = [0x46, 1, 0, 1, 0, 0x10, 0, 0, 1, 0x78, 5, 0, 0, 0x10, 0];
+    let mut wanted = Vec::from_slice(alloc, &head)?;
+    wanted.extend_from_slice(&value)?;
+    wanted.extend_from_slice(&bytes)?;
+    assert_frame(&rt, alloc, &packet, &wanted)
+}
