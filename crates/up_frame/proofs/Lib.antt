@@ -1,4 +1,5 @@
 pub mod AttrBytes
+pub mod Attributes
 pub mod Fields
 pub mod FrameExamples
 pub mod Parts

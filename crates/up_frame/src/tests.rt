@@ -8,7 +8,7 @@ use std::alloc::Global;
 use std::process::Abort;
 use std::test::Fail;
 use up_base::{AttrName, Bytes};
-use up_model::{MAX_ATTRS, MAX_PACKET, ValueView, packets_stay_legal};
+use up_model::{MAX_ATTRS, MAX_PACKET, MAX_VALUE, ValueView, packets_stay_legal};
 use up_shape::{LocalPacket, VecPacket, VecStore};
 
 /// A packet of these bytes, without attributes.
@@ -30,7 +30,26 @@ fn set_attr(rt: &impl Abort, packet: &mut VecPacket, name: &str, value: ValueVie
     let name = AttrName::read(name.as_bytes()).expect(rt, "no name");
     assert!(rt; !name.bytes().is_empty());
     assert!(rt; packet.attr_count() < MAX_ATTRS);
-    packet.set_attr(&name, value).expect(rt, "no memory");
+    match packet.set_attr(&name, value) {
+        Ok(()) => {}
+        Err(_) => panic!(rt; "no memory"),
+    }
+}
+
+fn set_words(rt: &impl Abort, packet: &mut VecPacket, name: &str, text: &str)
+    requires { IsLegal (plain_of packet.old) }
+    ensures { IsLegal (plain_of packet.new) }
+{
+    assert!(rt; text.len() <= MAX_VALUE);
+    set_attr(rt, packet, name, ValueView::Words(text));
+}
+
+fn set_opaque(rt: &impl Abort, packet: &mut VecPacket, name: &str, bytes: &[u8])
+    requires { IsLegal (plain_of packet.old) }
+    ensures { IsLegal (plain_of packet.new) }
+{
+    assert!(rt; bytes.len() <= MAX_VALUE);
+    set_attr(rt, packet, name, ValueView::Opaque(bytes));
 }
 
 /// The frame of the packet, behind a byte that stood there before.
@@ -82,11 +101,8 @@ fn an_attribute_stands_before_the_bytes(rt: HostRuntime) -> Result<(), Fail> {
 #[test]
 fn values_of_each_type_stand_in_the_order_of_their_names(rt: HostRuntime) -> Result<(), Fail> {
     let mut packet = fresh(&rt, rt.alloc(), &[255]);
-    let text = "\u{e9}";
-    let bytes = [0, 255];
-    assert!(rt; text.len() <= 4096 && bytes.len() <= 4096);
-    set_attr(&rt, &mut packet, "e", ValueView::Opaque(&bytes));
-    set_attr(&rt, &mut packet, "d", ValueView::Words(text));
+    set_opaque(&rt, &mut packet, "e", &[0, 255]);
+    set_words(&rt, &mut packet, "d", "\u{e9}");
     set_attr(
         &rt,
         &mut packet,
@@ -148,8 +164,7 @@ fn the_greatest_packet_and_value_are_written(rt: HostRuntime) -> Result<(), Fail
     let bytes = vec![in alloc; 7; 1_048_576]?;
     let value = vec![in alloc; 8; 4096]?;
     let mut packet = fresh(&rt, alloc, &bytes);
-    assert!(rt; value.len() <= 4096);
-    set_attr(&rt, &mut packet, "x", ValueView::Opaque(&value));
+    set_opaque(&rt, &mut packet, "x", &value);
     let head = [0x46, 1, 0, 1, 0, 0x10, 0, 0, 1, 0x78, 5, 0, 0, 0x10, 0];
     let mut wanted = Vec::from_slice(alloc, &head)?;
     wanted.extend_from_slice(&value)?;
