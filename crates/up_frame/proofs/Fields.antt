@@ -42,7 +42,7 @@ pub record IsField (size : ℕ) (rule : List ℕ → Bool) (bytes text rest : Li
   pub rule_holds : rule text ≡ true
   pub below : AreBytes text
 
-field_found : {A : Type 0} (short right : Bool) (x y : A) → cond short (Err Unfinished) (cond right (found x) (Err Broken)) ≡ found y
+pub field_found : {A : Type 0} (short right : Bool) (x y : A) → cond short (Err Unfinished) (cond right (found x) (Err Broken)) ≡ found y
     → (short ≡ false) × (right ≡ true) × (x ≡ y)
 field_found true right x y e = absurd cc
 field_found false true x y e = (refl, refl, cc)

@@ -4,4 +4,6 @@ pub mod Fields
 pub mod FrameExamples
 pub mod Packets
 pub mod Parts
+pub mod Shorter
+pub mod Streams
 pub mod Values

@@ -46,7 +46,7 @@ number_with number type_ e =
       ]
     ]
 
-by_found : (type_ : Option ValueType) (rest : List ℕ) (x : ValueType × List ℕ) → type_by type_ rest ≡ Ok x
+pub by_found : (type_ : Option ValueType) (rest : List ℕ) (x : ValueType × List ℕ) → type_by type_ rest ≡ Ok x
     → (type_ ≡ Some x.0) × (rest ≡ x.1)
 by_found (Some type_) rest x e =
     let same = found_is (type_, rest) x e in
