@@ -2,8 +2,10 @@ pub mod AttrBytes
 pub mod Attributes
 pub mod Fields
 pub mod FrameExamples
+pub mod MoreBytes
 pub mod Packets
 pub mod Parts
 pub mod Shorter
+pub mod Steady
 pub mod Streams
 pub mod Values

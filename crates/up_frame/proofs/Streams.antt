@@ -36,7 +36,7 @@ steps_enough (suc m) (suc n) bytes first second =
     next others (Err refused) e = refl
 
 -- what stands at the front is the first packet of the stream
-first_is : (bytes : List ℕ) (x : PlainPacket × List ℕ) → packet_at bytes ≡ Ok x → stream_of bytes ≡ behind x.0 (stream_of x.1)
+pub first_is : (bytes : List ℕ) (x : PlainPacket × List ℕ) → packet_at bytes ≡ Ok x → stream_of bytes ≡ behind x.0 (stream_of x.1)
 first_is [] x e = let not : Err Unfinished ≡ Ok x = sym nothing_at_end ∙ e in absurd cc
 first_is (byte ∷ bytes) x e =
     let fewer = packet_shrinks (byte ∷ bytes) x e in
@@ -44,7 +44,7 @@ first_is (byte ∷ bytes) x e =
     ∙ ap (behind x.0) (steps_enough (length bytes) (length x.1) x.1 (omega (arith, fewer)) (omega arith))
 
 -- where none does, the stream is its rest
-none_is : (bytes : List ℕ) (refused : NotWhole) → packet_at bytes ≡ Err refused → stream_of bytes ≡ record { flow = []; rest = bytes }
+pub none_is : (bytes : List ℕ) (refused : NotWhole) → packet_at bytes ≡ Err refused → stream_of bytes ≡ record { flow = []; rest = bytes }
 none_is [] refused e = refl
 none_is (byte ∷ bytes) refused e = ap (stream_by (stream_within (length bytes)) (byte ∷ bytes)) e
 

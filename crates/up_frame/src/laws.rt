@@ -1,10 +1,10 @@
 //! Laws of frames and of the bytes that are made of them.
-ghost use Rattle.std.specs.Prelude.{◌≡◌, ◌∷◌, ◌++◌, List, ℕ, [], Ok, All};
+ghost use Rattle.std.specs.Prelude.{◌≡◌, ◌∷◌, ◌++◌, List, ℕ, [], Some, Ok, All};
 ghost use Rattle.up_base.specs.Number.{AreBytes};
 ghost use Rattle.up_frame.specs.Fronts.{packet_at};
 ghost use Rattle.up_frame.specs.Spelling.{frame_of, frames_of};
 ghost use Rattle.up_frame.specs.Streams.{
-    IsFramed, HasNoFrame, whole_frames, rest_of_frames
+    IsFramed, HasNoFrame, broken_at, whole_frames, rest_of_frames
 };
 ghost use Rattle.up_model.specs.Packet.{Flow, IsLegal};
 ghost use Rattle.up_model.specs.declared.plain_packet.PlainPacket.{PlainPacket};
@@ -43,4 +43,15 @@ pub fn whole_frames_are_all()
     ensures only { (bytes : List ℕ) (flow : Flow) (rest : List ℕ) → AreBytes bytes
         → IsFramed bytes flow rest → HasNoFrame rest
         → (flow ≡ whole_frames bytes) × (rest ≡ rest_of_frames bytes) }
+{}
+
+/// More bytes change nothing that was judged: the whole frames stay, those of the rest with the new bytes follow, and what
+/// is broken stays broken at its place.
+pub fn what_was_judged_stays()
+    ensures frames { (bytes more : List ℕ)
+        → whole_frames (bytes ++ more) ≡ whole_frames bytes ++ whole_frames (rest_of_frames bytes ++ more) }
+    ensures rest { (bytes more : List ℕ)
+        → rest_of_frames (bytes ++ more) ≡ rest_of_frames (rest_of_frames bytes ++ more) }
+    ensures broken { (bytes more : List ℕ) (place : ℕ)
+        → broken_at bytes ≡ Some place → broken_at (bytes ++ more) ≡ Some place }
 {}
