@@ -5,6 +5,7 @@ pub mod FrameExamples
 pub mod MoreBytes
 pub mod Packets
 pub mod Parts
+pub mod ReadAttributes
 pub mod Shorter
 pub mod Steady
 pub mod Streams

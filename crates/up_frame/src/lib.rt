@@ -3,6 +3,7 @@
 
 mod laws;
 mod layout;
+mod reading;
 mod writing;
 
 pub use laws::{
@@ -10,6 +11,7 @@ pub use laws::{
     whole_frames_come_one_by_one,
 };
 pub use layout::{MARK, NotWhole, VERSION, ValueType};
+pub use reading::behind_frame;
 pub use writing::write_frame;
 
 #[cfg(test)]
