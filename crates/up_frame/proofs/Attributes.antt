@@ -53,7 +53,7 @@ attribute_takes before bytes x below e =
     let front : Takes bytes (named b.0.0) b.0.1 = subst (λ (count : ℕ). Takes bytes (count ∷ b.0.0) b.0.1) counted both in
     let behind = takes_both b.0.1 (number_of d.0.0 ∷ []) d.0.1 (sized (value_bytes f.0.0)) f.0.1 type_ value.takes in
     let typed_ : Takes b.0.1 (typed f.0.0) f.0.1 =
-        subst (λ (t : ValueType). Takes b.0.1 (number_of t ∷ sized (value_bytes f.0.0)) f.0.1) (sym value.type_is) behind in
+    subst (λ (t : ValueType). Takes b.0.1 (number_of t ∷ sized (value_bytes f.0.0)) f.0.1) (sym value.type_is) behind in
     let whole = takes_both bytes (named b.0.0) b.0.1 (typed f.0.0) f.0.1 front typed_ in
     let attr : Attr = (b.0.0, f.0.0) in
     let right : IsBehind before attr = record { name = rule.0; rises = rule.1; legal = value.legal } in
@@ -68,7 +68,7 @@ attribute_again before attr rest right =
     let behind = typed attr.1 ++ rest in
     let fits : length attr.0 < 256 ^ 1 = omega (arith, few_bytes (length attr.0) within) in
     let grouped : attribute_bytes attr ++ rest ≡ big_endian_bytes 1 (length attr.0) ++ (attr.0 ++ behind) =
-        append_assoc (named attr.0) (typed attr.1) rest ∙ ap (λ (count : List ℕ). count ++ (attr.0 ++ behind)) (sym one) in
+    append_assoc (named attr.0) (typed attr.1) rest ∙ ap (λ (count : List ℕ). count ++ (attr.0 ++ behind)) (sym one) in
     let size = number_again 1 (is_within 1 NAME_SIZE) (length attr.0) (attr.0 ++ behind) fits within in
     let name = field_again (length attr.0) (is_name_behind before) attr.0 behind refl (and_from _ _ right.name right.rises) in
     let type_ = type_again (type_of attr.1) (sized (value_bytes attr.1) ++ rest) in
@@ -174,7 +174,7 @@ attributes_again [] before rest all = refl
 attributes_again (attr ∷ attrs) before rest all =
     let behind = flat_map attribute_bytes attrs ++ rest in
     let grouped : flat_map attribute_bytes (attr ∷ attrs) ++ rest ≡ attribute_bytes attr ++ behind =
-        append_assoc (attribute_bytes attr) (flat_map attribute_bytes attrs) rest in
+    append_assoc (attribute_bytes attr) (flat_map attribute_bytes attrs) rest in
     let one = attribute_again before attr behind (first_behind before attr attrs all) in
     let others = attributes_again attrs attr.0 rest (others_behind before attr attrs all) in
     ap (attributes_at (suc (length attrs)) before) grouped

@@ -96,9 +96,9 @@ number_takes size rule bytes x below e =
     let a = bind_ok (field size (λ digits. rule (big_endian digits)) bytes) (λ f. found (big_endian f.0, f.1)) x e in
     let f = field_takes size (λ digits. rule (big_endian digits)) bytes a.0 below a.1 in
     let digits : big_endian_bytes size (big_endian a.0.0) ≡ a.0.0 =
-        ap (λ (count : ℕ). big_endian_bytes count (big_endian a.0.0)) (sym f.size_is) ∙ bytes_of_number a.0.0 f.below in
+    ap (λ (count : ℕ). big_endian_bytes count (big_endian a.0.0)) (sym f.size_is) ∙ bytes_of_number a.0.0 f.below in
     let taken : Takes bytes (big_endian_bytes size (big_endian a.0.0)) a.0.1 =
-        subst (λ (text : List ℕ). Takes bytes text a.0.1) (sym digits) f.takes in
+    subst (λ (text : List ℕ). Takes bytes text a.0.1) (sym digits) f.takes in
     subst (λ (p : ℕ × List ℕ). Takes bytes (big_endian_bytes size p.0) p.1 × (rule p.0 ≡ true))
     (found_is (big_endian a.0.0, a.0.1) x a.2) (taken, f.rule_holds)
 
@@ -107,6 +107,6 @@ pub number_again : (size : ℕ) (rule : ℕ → Bool) (number : ℕ) (rest : Lis
 number_again size rule number rest fits holds =
     let back = number_of_bytes size number fits in
     let digits : field size (λ digits. rule (big_endian digits)) (big_endian_bytes size number ++ rest) ≡ Ok (big_endian_bytes size number, rest) =
-        field_again size (λ digits. rule (big_endian digits)) (big_endian_bytes size number) rest (length_digits size number) (ap rule back ∙ holds) in
+    field_again size (λ digits. rule (big_endian digits)) (big_endian_bytes size number) rest (length_digits size number) (ap rule back ∙ holds) in
     ap (λ (r : Front (List ℕ)). r >>= λ f. found (big_endian f.0, f.1)) digits
     ∙ ap (λ (n : ℕ). found (n, rest)) back

@@ -1,6 +1,7 @@
 pub mod AttrBytes
 pub mod Attributes
 pub mod Fields
+pub mod FoundFrames
 pub mod FrameExamples
 pub mod MoreBytes
 pub mod Packets

@@ -21,10 +21,10 @@ grown (suc n) bytes more enough =
     next (λ rest fewer. grown n rest more (omega arith)) (packet_at bytes) refl
   where
     next : ((rest : List ℕ) → length rest < length bytes
-            → stream_of (rest ++ more) ≡ all_behind (stream_within n rest).flow (stream_of ((stream_within n rest).rest ++ more)))
+        → stream_of (rest ++ more) ≡ all_behind (stream_within n rest).flow (stream_of ((stream_within n rest).rest ++ more)))
         → (front : Front PlainPacket) → packet_at bytes ≡ front
         → stream_of (bytes ++ more)
-            ≡ all_behind (stream_by (stream_within n) bytes front).flow (stream_of ((stream_by (stream_within n) bytes front).rest ++ more))
+        ≡ all_behind (stream_by (stream_within n) bytes front).flow (stream_of ((stream_by (stream_within n) bytes front).rest ++ more))
     next others (Ok x) e =
         let later : packet_at (bytes ++ more) ≡ Ok (x.0, x.1 ++ more) = subst (λ front. Stays more front (packet_at (bytes ++ more))) e (packet_steady bytes more) in
         first_is (bytes ++ more) (x.0, x.1 ++ more) later ∙ ap (behind x.0) (others x.1 (packet_shrinks bytes x e))
@@ -58,7 +58,7 @@ stays_broken bytes more place e =
     let broken = is_broken (rest_place bytes) place (packet_at rest) e in
     let later : packet_at (rest ++ more) ≡ Err Broken = subst (λ front. Stays more front (packet_at (rest ++ more))) broken.0 (packet_steady rest more) in
     let ends : rest_of_frames (bytes ++ more) ≡ rest ++ more =
-        ap (λ (s : Stream). s.rest) (grown (length bytes) bytes more (omega arith)) ∙ ap (λ (s : Stream). s.rest) (none_is (rest ++ more) Broken later) in
+    ap (λ (s : Stream). s.rest) (grown (length bytes) bytes more (omega arith)) ∙ ap (λ (s : Stream). s.rest) (none_is (rest ++ more) Broken later) in
     let where_ : length (bytes ++ more) - length (rest ++ more) ≡ place = same_place bytes rest more (rest_within (length bytes) bytes) ∙ broken.1 in
     ap (λ (r : List ℕ). broken_where (length (bytes ++ more) - length r) (packet_at r)) ends
     ∙ ap (λ (front : Front PlainPacket). broken_where (length (bytes ++ more) - length (rest ++ more)) front) later

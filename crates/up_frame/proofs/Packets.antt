@@ -79,11 +79,11 @@ packet_takes bytes x below e =
     let behind_mark = takes_both a.0.1 (big_endian_bytes 1 b.0.0) b.0.1 (big_endian_bytes 2 c.0.0 ++ big_endian_bytes 4 d.0.0) d.0.1 version.0 lengths in
     let head = takes_both bytes (big_endian_bytes 1 a.0.0) a.0.1 (big_endian_bytes 1 b.0.0 ++ (big_endian_bytes 2 c.0.0 ++ big_endian_bytes 4 d.0.0)) d.0.1 mark.0 behind_mark in
     let spelled : big_endian_bytes 1 a.0.0 ++ (big_endian_bytes 1 b.0.0 ++ (big_endian_bytes 2 c.0.0 ++ big_endian_bytes 4 d.0.0)) ≡ head_bytes (len x.0.attrs) (length x.0.bytes) =
-        head_then c.0.0 d.0.0 a.0.0 b.0.0 (eqb-true _ _ mark.1) (eqb-true _ _ version.1)
-        ∙ ap (λ (n : ℕ). head_bytes n d.0.0) (sym content.count_is) ∙ ap (head_bytes (len x.0.attrs)) (sym content.size_is) in
+    head_then c.0.0 d.0.0 a.0.0 b.0.0 (eqb-true _ _ mark.1) (eqb-true _ _ version.1)
+    ∙ ap (λ (n : ℕ). head_bytes n d.0.0) (sym content.count_is) ∙ ap (head_bytes (len x.0.attrs)) (sym content.size_is) in
     let attrs = flat_map attribute_bytes (entries x.0.attrs) in
     let whole = takes_both bytes (head_bytes (len x.0.attrs) (length x.0.bytes)) d.0.1 (attrs ++ x.0.bytes) x.1
-        (subst (λ (text : List ℕ). Takes bytes text d.0.1) spelled head) content.takes in
+    (subst (λ (text : List ℕ). Takes bytes text d.0.1) spelled head) content.takes in
     record {
       takes = subst (λ (text : List ℕ). Takes bytes text x.1) (sym (append_assoc (head_bytes (len x.0.attrs) (length x.0.bytes)) attrs x.0.bytes)) whole;
       legal = content.legal;
@@ -140,7 +140,7 @@ packet_again packet rest legal =
     let sized = big_endian_bytes 4 size ++ content in
     let counted = big_endian_bytes 2 count ++ sized in
     let grouped : frame_of packet ++ rest ≡ big_endian_bytes 1 MARK ++ (big_endian_bytes 1 VERSION ++ counted) =
-        append_assoc (head_bytes count size ++ attrs) packet.bytes rest ∙ append_assoc (head_bytes count size) attrs (packet.bytes ++ rest) in
+    append_assoc (head_bytes count size ++ attrs) packet.bytes rest ∙ append_assoc (head_bytes count size) attrs (packet.bytes ++ rest) in
     let few : count < 256 ^ 2 = omega (arith, legal.few) in
     let small : size < 256 ^ 4 = omega (arith, legal.size) in
     ap packet_at grouped

@@ -49,9 +49,9 @@ one_passed count passed bytes before rest name value after more is so_far =
     let attr : Attr = (name, value) in
     let left : count - passed ≡ suc (count - (passed + 1)) = omega arith in
     let next : with_front so_far.front (attributes_at (count - passed) before rest) ≡ with_front (so_far.front ++ attr ∷ []) (attributes_at (count - (passed + 1)) name after) =
-        ap (λ (n : ℕ). with_front so_far.front (attributes_at n before rest)) left
-        ∙ ap (λ (r : Front Attr). with_front so_far.front (r >>= λ first. attributes_at (count - (passed + 1)) first.0.0 first.1 >>= λ others. found (first.0 ∷ others.0, others.1))) is
-        ∙ one_over so_far.front attr (attributes_at (count - (passed + 1)) name after) in
+    ap (λ (n : ℕ). with_front so_far.front (attributes_at n before rest)) left
+    ∙ ap (λ (r : Front Attr). with_front so_far.front (r >>= λ first. attributes_at (count - (passed + 1)) first.0.0 first.1 >>= λ others. found (first.0 ∷ others.0, others.1))) is
+    ∙ one_over so_far.front attr (attributes_at (count - (passed + 1)) name after) in
     record { front = so_far.front ++ attr ∷ []; is = sym next ∙ so_far.is }
 
 -- one that isn't whole ends them all

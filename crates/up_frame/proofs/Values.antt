@@ -116,7 +116,7 @@ value_takes type_ bytes x below e =
     let read = value_read type_ b.0.0 text.below right text.rule_holds in
     let both = takes_both bytes (big_endian_bytes 4 a.0.0) a.0.1 b.0.0 b.0.1 size.0 text.takes in
     let counted : Takes bytes (sized b.0.0) b.0.1 =
-        subst (λ (count : ℕ). Takes bytes (big_endian_bytes 4 count ++ b.0.0) b.0.1) (sym text.size_is) both in
+    subst (λ (count : ℕ). Takes bytes (big_endian_bytes 4 count ++ b.0.0) b.0.1) (sym text.size_is) both in
     let made : IsTyped type_ bytes (value_of type_ b.0.0) b.0.1 = record {
       takes = subst (λ (text : List ℕ). Takes bytes (sized text) b.0.1) (sym read.same) counted;
       type_is = read.type_is;

@@ -4,7 +4,11 @@ ghost use Rattle.up_base.specs.Number.{AreBytes};
 ghost use Rattle.up_frame.specs.Fronts.{packet_at};
 ghost use Rattle.up_frame.specs.Spelling.{frame_of, frames_of};
 ghost use Rattle.up_frame.specs.Streams.{
-    IsFramed, HasNoFrame, broken_at, whole_frames, rest_of_frames
+  IsFramed,
+  HasNoFrame,
+  broken_at,
+  whole_frames,
+  rest_of_frames,
 };
 ghost use Rattle.up_model.specs.Packet.{Flow, IsLegal};
 ghost use Rattle.up_model.specs.declared.plain_packet.PlainPacket.{PlainPacket};

@@ -6,10 +6,20 @@ ghost use Rattle.std.specs.Str.{is_utf8};
 ghost use Rattle.up_base.specs.Name.{is_name, is_within};
 ghost use Rattle.up_base.specs.declared.name_text.TheConstants.{NAME_SIZE};
 ghost use Rattle.up_frame.specs.Fronts.{
-    field, number_at, is_any, is_name_behind, type_at, is_size_of, is_value_of, value_at, attribute_at,
-    attributes_at, content_at, packet_at
+  field,
+  number_at,
+  is_any,
+  is_name_behind,
+  type_at,
+  is_size_of,
+  is_value_of,
+  value_at,
+  attribute_at,
+  attributes_at,
+  content_at,
+  packet_at,
 };
-ghost use Rattle.up_frame.specs.Reading.{Gives, Ends, EndsNamed};
+ghost use Rattle.up_frame.specs.Reading.{BeginsWithFrame, Ends, EndsNamed, Gives};
 ghost use Rattle.up_frame.specs.Types.{type_with};
 ghost use Rattle.up_model.specs.declared.limits.TheConstants.{MAX_ATTRS, MAX_PACKET};
 
@@ -216,11 +226,7 @@ fn name_at<'a>(
 }
 
 /// A value of so many bytes, and what is behind it.
-fn content_of(
-    bytes: &[u8],
-    size: usize,
-    type_: ValueType,
-) -> Result<(&[u8], &[u8]), NotWhole>
+fn content_of(bytes: &[u8], size: usize, type_: ValueType) -> Result<(&[u8], &[u8]), NotWhole>
     requires { is_size_of type_ size ≡ true }
     ensures { Gives (λ x. (x.0.now, x.1.now)) result (field size (is_value_of type_) bytes.now) }
 {
@@ -280,9 +286,9 @@ fn behind_content(bytes: &[u8], count: u16, size: u32) -> Result<&[u8], NotWhole
     Ok(rest)
 }
 
-/// What is behind the frame at the front of some bytes, or why none is whole there.
+/// What is behind a frame.
 #[tactic(auto, unfolding(crate::specs::Fronts::packet_at))]
-pub fn behind_frame(bytes: &[u8]) -> Result<&[u8], NotWhole>
+fn behind_packet(bytes: &[u8]) -> Result<&[u8], NotWhole>
     ensures { Ends (λ rest. rest.now) result (packet_at bytes.now) }
 {
     let rest = behind_byte(bytes, MARK)?;
@@ -290,4 +296,14 @@ pub fn behind_frame(bytes: &[u8]) -> Result<&[u8], NotWhole>
     let (count, rest) = count_at(rest)?;
     let (size, rest) = size_at(rest)?;
     behind_content(rest, count, size)
+}
+
+/// What is behind the frame at the front of some bytes, or why no whole one stands there. Nothing is allocated.
+pub fn behind_frame(bytes: &[u8]) -> Result<&[u8], NotWhole>
+    // What is passed over is the frame of a legal packet.
+    ensures whole { IfOk result (λ rest. BeginsWithFrame bytes.now rest.now) }
+    // What the front is, and which refusal it is.
+    ensures front { Ends (λ rest. rest.now) result (packet_at bytes.now) }
+{
+    behind_packet(bytes)
 }

@@ -3,7 +3,7 @@ ghost use Rattle.up_model.specs.Packet.{IsLegal};
 ghost use Rattle.up_model.specs.Value.{lent, IsLegalValue};
 ghost use Rattle.up_shape.specs.VecPackets.{plain_of};
 
-use crate::{MARK, VERSION, write_frame};
+use crate::{MARK, NotWhole, VERSION, behind_frame, write_frame};
 use std::alloc::Global;
 use std::process::Abort;
 use std::test::Fail;
@@ -170,4 +170,84 @@ fn the_greatest_packet_and_value_are_written(rt: HostRuntime) -> Result<(), Fail
     wanted.extend_from_slice(&value)?;
     wanted.extend_from_slice(&bytes)?;
     assert_frame(&rt, alloc, &packet, &wanted)
+}
+
+/// What is behind the frame at the front has so many bytes, or this is why there is none.
+fn assert_front(rt: &impl Abort, bytes: &[u8], wanted: Result<usize, NotWhole>) {
+    match behind_frame(bytes) {
+        Ok(rest) => assert_eq!(rt; Ok(rest.len()), wanted),
+        Err(refused) => assert_eq!(rt; Err(refused), wanted),
+    }
+}
+
+/// The packet `hi` with five attributes, one of each type.
+const EACH_TYPE: [u8; 60] = [
+    0x46, 1, 0, 5, 0, 0, 0, 2, 1, 0x61, 1, 0, 0, 0, 0, 1, 0x62, 2, 0, 0, 0, 1, 1, 1, 0x63, 3, 0, 0,
+    0, 8, 1, 2, 3, 4, 5, 6, 7, 8, 1, 0x64, 4, 0, 0, 0, 2, 0xc3, 0xa9, 2, 0x64, 0x64, 5, 0, 0, 0, 1,
+    255, 104, 105, 0x46, 9,
+];
+
+#[test]
+fn a_whole_frame_ends_where_the_next_begins(rt: HostRuntime) {
+    assert_front(&rt, &[0x46, 1, 0, 0, 0, 0, 0, 2, 97, 98, 9], Ok(1));
+    assert_front(&rt, &[0x46, 1, 0, 0, 0, 0, 0, 0], Ok(0));
+    assert_front(&rt, &EACH_TYPE, Ok(2));
+}
+
+#[test]
+fn each_front_of_a_frame_is_unfinished(rt: HostRuntime) {
+    for size in 0..58 {
+        assert_front(&rt, &EACH_TYPE[..size], Err(NotWhole::Unfinished));
+    }
+}
+
+#[test]
+fn a_field_is_broken_once_its_bytes_are_there(rt: HostRuntime) {
+    let table: [&[u8]; 18] = [
+        &[0x47],
+        &[0x46, 2],
+        &[0x46, 1, 0, 65],
+        &[0x46, 1, 1, 0],
+        &[0x46, 1, 0, 0, 0, 0x10, 0, 1],
+        &[0x46, 1, 0, 1, 0, 0, 0, 0, 0],
+        &[0x46, 1, 0, 1, 0, 0, 0, 0, 65],
+        &[0x46, 1, 0, 1, 0, 0, 0, 0, 1, 0x20],
+        &[0x46, 1, 0, 1, 0, 0, 0, 0, 1, 0x78, 0],
+        &[0x46, 1, 0, 1, 0, 0, 0, 0, 1, 0x78, 6],
+        &[0x46, 1, 0, 1, 0, 0, 0, 0, 1, 0x78, 1, 0, 0, 0, 1],
+        &[0x46, 1, 0, 1, 0, 0, 0, 0, 1, 0x78, 3, 0, 0, 0, 7],
+        &[0x46, 1, 0, 1, 0, 0, 0, 0, 1, 0x78, 5, 0, 0, 0x10, 1],
+        &[0x46, 1, 0, 1, 0, 0, 0, 0, 1, 0x78, 2, 0, 0, 0, 1, 2],
+        &[0x46, 1, 0, 1, 0, 0, 0, 0, 1, 0x78, 4, 0, 0, 0, 1, 0xff],
+        &[0x46, 1, 0, 2, 0, 0, 0, 0, 1, 0x62, 1, 0, 0, 0, 0, 1, 0x62],
+        &[0x46, 1, 0, 2, 0, 0, 0, 0, 1, 0x62, 1, 0, 0, 0, 0, 1, 0x61],
+        &[
+            0x46, 1, 0, 2, 0, 0, 0, 0, 2, 0x62, 0x62, 1, 0, 0, 0, 0, 1, 0x62,
+        ],
+    ];
+    for bytes in table {
+        assert_front(&rt, bytes, Err(NotWhole::Broken));
+    }
+}
+
+/// The frame of the packet is passed over whole, and a byte behind it is left.
+fn assert_passed(rt: &impl Abort, alloc: Global, packet: &VecPacket)
+    requires { IsLegal (plain_of packet.now) }
+{
+    let mut out = Bytes::new(alloc);
+    assert_eq!(rt; write_frame(packet, &mut out), Ok(()));
+    assert_eq!(rt; out.push(7), Ok(()));
+    assert_front(rt, out.as_slice(), Ok(1));
+}
+
+#[test]
+fn frames_at_their_limits_are_passed_over(rt: HostRuntime) -> Result<(), Fail> {
+    let alloc = rt.alloc();
+    let mut packet = fresh(&rt, alloc, &vec![in alloc; 7; 1_048_576]?);
+    set_all(&rt, &mut packet, &NAMES);
+    assert_passed(&rt, alloc, &packet);
+    let mut packet = fresh(&rt, alloc, b"");
+    set_opaque(&rt, &mut packet, "x", &vec![in alloc; 8; 4096]?);
+    assert_passed(&rt, alloc, &packet);
+    Ok(())
 }
