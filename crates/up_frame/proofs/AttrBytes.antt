@@ -1,12 +1,12 @@
 -- The attributes of a list, one after the other.
-use Rattle.std.proofs.Common.{◌≡◌, ℕ, ◌+◌, ◌<◌, ◌≤◌, List, [], ◌∷◌, ◌++◌, length, take, drop, map, get_or, append_assoc, append-nil, take-append-drop, Some, refl, sym, ap, subst, ◌∙◌, arith}
+use Rattle.std.proofs.Common.{◌≡◌, ℕ, ◌+◌, ◌<◌, ◌≤◌, List, [], ◌∷◌, ◌++◌, length, take, drop, map, append-nil, take-append-drop, Some, sym, ap, subst, ◌∙◌}
 use Rattle.std.specs.Prelude.{All, slice_get}
 use Rattle.std.specs.List.{flat_map}
 use Rattle.std.proofs.lemmas.List.{take_all}
 use Rattle.std.proofs.lemmas.List.Concat.{flat_map-append}
 use Rattle.std.proofs.lemmas.List.Elements.{All-nil, All-cons, All-head, All-tail, All-get_or}
 use Rattle.std.proofs.lemmas.Option.{slice_get_within, get_or_from_slice_get}
-use Rattle.up_frame.proofs.Parts.{of_first, of_second, up_to}
+use Rattle.up_frame.proofs.Parts.{of_first, of_second}
 use Rattle.up_frame.specs.Spelling.{attribute_bytes}
 use Rattle.up_frame.specs.Writing.{AddsPart}
 use Rattle.up_model.proofs.AttrLists.{Attr}

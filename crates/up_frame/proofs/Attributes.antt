@@ -1,14 +1,13 @@
 -- Attributes in the order of their names, as they are read and written.
-use Rattle.std.proofs.Common.{◌≡◌, ℕ, zero, suc, ◌*◌, ◌+◌, ◌%◌, ◌/◌, ◌^◌, ◌<◌, ◌≤◌, Bool, true, false, ◌&&◌, T, List, [], ◌∷◌, ◌++◌, length, map, All, leb, Ordering, Less, Equal, Greater, Ok, refl, sym, ap, subst, ◌∙◌, append_assoc, arith}
+use Rattle.std.proofs.Common.{◌≡◌, ℕ, zero, suc, ◌%◌, ◌^◌, ◌<◌, ◌≤◌, Bool, true, false, ◌&&◌, T, List, [], ◌∷◌, ◌++◌, length, map, All, leb, Ordering, Less, Equal, Greater, Ok, refl, sym, ap, subst, ◌∙◌, append_assoc, arith}
 use Rattle.std.specs.Cmp.Lexicographic.{nat_list_cmp_total}
 use Rattle.std.specs.FinMap.Entries.{is_sorted, below_all}
 use Rattle.std.specs.List.{flat_map}
 use Rattle.std.specs.Ordering.{is_lt}
 use Rattle.std.proofs.lemmas.Bool.{and_parts, and_from, leb-true}
-use Rattle.std.proofs.lemmas.List.Concat.{flat_map-cons}
 use Rattle.std.proofs.lemmas.List.Elements.{All-nil, All-cons, All-head, All-tail}
 use Rattle.up_base.specs.Name.{is_name, is_within}
-use Rattle.up_base.specs.Number.{AreBytes, big_endian, big_endian_bytes}
+use Rattle.up_base.specs.Number.{AreBytes, big_endian_bytes}
 use Rattle.up_base.specs.declared.name_text.TheConstants.{NAME_SIZE}
 use Rattle.up_frame.proofs.Fields.{bind_ok, found, found_is, Takes, takes_both, field_takes, field_again, number_takes, number_again}
 use Rattle.up_frame.proofs.Values.{type_takes, type_again, value_takes, value_again}

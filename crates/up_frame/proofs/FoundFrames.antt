@@ -1,5 +1,5 @@
 -- A frame that was passed over is that of a legal packet.
-use Rattle.std.proofs.Common.{ℕ, ◌<◌, List, get_or, length, Result, Ok, Err}
+use Rattle.std.proofs.Common.{ℕ, ◌<◌, List, get_or, Result, Ok, Err}
 use Rattle.std.specs.Prelude.{IfOk}
 use Rattle.std.specs.Borrow.{Bor}
 use Rattle.std.proofs.lemmas.List.Elements.{All-from_get_or}

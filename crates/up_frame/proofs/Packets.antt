@@ -8,7 +8,7 @@ use Rattle.std.proofs.lemmas.Bool.{eqb-true, leb-true, le-leb}
 use Rattle.std.proofs.lemmas.List.Elements.{All-head, All-tail}
 use Rattle.up_base.specs.Name.{is_name}
 use Rattle.up_base.specs.Number.{AreBytes, big_endian_bytes}
-use Rattle.up_frame.proofs.Attributes.{AreBehind, AreAttributes, attributes_take, attributes_again}
+use Rattle.up_frame.proofs.Attributes.{AreBehind, attributes_take, attributes_again}
 use Rattle.up_frame.proofs.Fields.{bind_ok, found, found_is, Takes, takes_both, field_takes, field_again, number_takes, number_again}
 use Rattle.up_frame.specs.Fronts.{Front, ◌>>=◌, field, number_at, is_any, attributes_at, content_at, packet_at}
 use Rattle.up_frame.specs.Spelling.{attribute_bytes, head_bytes, frame_of}

@@ -1,5 +1,5 @@
 -- Attributes that are passed over one by one.
-use Rattle.std.proofs.Common.{◌≡◌, ℕ, zero, suc, ◌+◌, ◌-◌, ◌<◌, ◌≤◌, List, [], ◌∷◌, ◌++◌, Ok, Err, refl, sym, ap, ◌∙◌, append_assoc, append-nil, arith}
+use Rattle.std.proofs.Common.{◌≡◌, ℕ, suc, ◌+◌, ◌-◌, ◌<◌, ◌≤◌, List, [], ◌∷◌, ◌++◌, Ok, Err, refl, sym, ap, ◌∙◌, append_assoc, append-nil, arith}
 use Rattle.up_frame.proofs.Fields.{found}
 use Rattle.up_frame.specs.Fronts.{Front, ◌>>=◌, field, number_at, is_size_of, is_value_of, value_of, value_at, attribute_at, attributes_at, is_any, content_at}
 use Rattle.up_frame.specs.declared.layout.NotWhole.{NotWhole}

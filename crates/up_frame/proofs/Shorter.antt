@@ -1,5 +1,5 @@
 -- What stands behind a field or a frame is no longer than the bytes it stood in.
-use Rattle.std.proofs.Common.{◌≡◌, ℕ, zero, suc, ◌+◌, ◌<◌, ◌≤◌, Bool, true, false, cond, eqb, leb, ltb, List, [], ◌∷◌, length, take, drop, Ok, refl, sym, ap, subst, ◌∙◌, arith}
+use Rattle.std.proofs.Common.{◌≡◌, ℕ, zero, suc, ◌+◌, ◌<◌, ◌≤◌, Bool, eqb, leb, ltb, List, [], ◌∷◌, length, take, drop, Ok, ap, subst, arith}
 use Rattle.std.proofs.lemmas.Bool.{ltb-false}
 use Rattle.std.proofs.lemmas.List.{length-drop}
 use Rattle.up_base.specs.Name.{is_within}
@@ -14,7 +14,6 @@ use Rattle.up_frame.specs.declared.layout.ValueType.{ValueType}
 use Rattle.up_model.proofs.AttrLists.{Attr, attrs_of}
 use Rattle.up_model.specs.declared.limits.TheConstants.{MAX_ATTRS, MAX_PACKET}
 use Rattle.up_model.specs.declared.plain_packet.PlainPacket.{PlainPacket}
-use Rattle.up_model.specs.declared.value.Value.{Value}
 
 -- what is found leaves no more bytes than there were
 abbrev Shrinks : {A : Type 0} → (List ℕ → Front A) → Type 0

@@ -1,15 +1,13 @@
 -- Bytes as frames: the whole ones come one by one, and no others do.
-use Rattle.std.proofs.Common.{◌≡◌, ℕ, zero, suc, ◌<◌, ◌≤◌, List, [], ◌∷◌, ◌++◌, length, All, Result, Ok, Err, refl, sym, ap, subst, ◌∙◌, append_assoc, arith}
-use Rattle.std.proofs.lemmas.List.{length-append}
+use Rattle.std.proofs.Common.{◌≡◌, ℕ, zero, suc, ◌<◌, ◌≤◌, List, [], ◌∷◌, ◌++◌, length, All, Ok, Err, refl, sym, ap, ◌∙◌, arith}
 use Rattle.std.proofs.lemmas.List.Elements.{All-head, All-tail}
-use Rattle.up_base.specs.Lists.{IsPrefix}
 use Rattle.up_base.specs.Number.{AreBytes}
 use Rattle.up_frame.proofs.Fields.{found, found_is}
 use Rattle.up_frame.proofs.Packets.{packet_takes, packet_again}
 use Rattle.up_frame.proofs.Shorter.{packet_shrinks}
 use Rattle.up_frame.specs.Fronts.{Front, packet_at}
 use Rattle.up_frame.specs.Spelling.{frame_of, frames_of}
-use Rattle.up_frame.specs.Streams.{IsFramed, HasNoFrame, Stream, behind, stream_by, stream_within, stream_of, whole_frames, rest_of_frames}
+use Rattle.up_frame.specs.Streams.{IsFramed, HasNoFrame, Stream, behind, stream_by, stream_within, stream_of}
 use Rattle.up_frame.specs.declared.layout.NotWhole.{NotWhole}
 use Rattle.up_frame.specs.declared.layout.NotWhole.TheVariants.{Unfinished}
 use Rattle.up_model.specs.Packet.{Flow, IsLegal}

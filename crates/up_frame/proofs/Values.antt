@@ -1,15 +1,14 @@
 -- The value of an attribute, its type and its length, as they are read and written.
-use Rattle.std.proofs.Common.{◌≡◌, ℕ, zero, suc, ◌^◌, ◌<◌, ◌≤◌, ◌⊎◌, Bool, true, false, cond, eqb, leb, List, [], ◌∷◌, ◌++◌, length, Option, Some, None, Ok, Err, refl, sym, ap, subst, ◌∙◌, append_assoc, arith, inl, inr}
-use Rattle.std.proofs.lemmas.Bool.{eqb-true, eq-eqb, leb-true, le-leb, cases_Bool}
+use Rattle.std.proofs.Common.{◌≡◌, ℕ, zero, suc, ◌^◌, ◌<◌, ◌≤◌, ◌⊎◌, Bool, true, false, cond, eqb, leb, List, [], ◌∷◌, ◌++◌, length, Option, Some, None, Ok, refl, sym, ap, subst, ◌∙◌, append_assoc, arith, inl, inr}
+use Rattle.std.proofs.lemmas.Bool.{eqb-true, leb-true, le-leb}
 use Rattle.std.proofs.lemmas.List.{nil_from_length}
-use Rattle.std.proofs.lemmas.List.Elements.{All-head, All-tail}
+use Rattle.std.proofs.lemmas.List.Elements.{All-tail}
 use Rattle.up_base.proofs.NumberBytes.{bytes_of_number, number_of_bytes}
 use Rattle.up_base.specs.Number.{AreBytes, big_endian, big_endian_bytes}
-use Rattle.up_frame.proofs.Fields.{bind_ok, found, found_is, Takes, takes_both, field_takes, field_again, number_takes, number_again, number_below, length_digits}
+use Rattle.up_frame.proofs.Fields.{bind_ok, found, found_is, Takes, takes_both, field_takes, field_again, number_takes, number_again, number_below}
 use Rattle.up_frame.specs.Fronts.{Front, ◌>>=◌, field, number_at, type_by, type_at, is_size_of, is_value_of, value_of, value_at}
 use Rattle.up_frame.specs.Spelling.{value_bytes, sized}
 use Rattle.up_frame.specs.Types.{number_of, type_with, type_of}
-use Rattle.up_frame.specs.declared.layout.NotWhole.TheVariants.{Broken, Unfinished}
 use Rattle.up_frame.specs.declared.layout.ValueType.{ValueType}
 use Rattle.up_frame.specs.declared.layout.ValueType.TheVariants as types
 use Rattle.up_model.specs.Value.{IsLegalValue}

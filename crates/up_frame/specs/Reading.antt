@@ -18,7 +18,8 @@ Ends {A = A} rest (Ok x) front = (whole : A) × (front ≡ Ok (whole, rest x))
 Ends rest (Err refused) front = front ≡ Err refused
 
 -- the same of an attribute, whose name the answer tells too
-abbrev pub EndsNamed : {X : Type 0} → (X → List ℕ) → (X → List ℕ) → Result X NotWhole → Front (List ℕ × Value) → Type 0
+abbrev pub EndsNamed : {X : Type 0} → (X → List ℕ) → (X → List ℕ)
+    → Result X NotWhole → Front (List ℕ × Value) → Type 0
 EndsNamed name rest (Ok x) front = (value : Value) × (front ≡ Ok ((name x, value), rest x))
 EndsNamed name rest (Err refused) front = front ≡ Err refused
 

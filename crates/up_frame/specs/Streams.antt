@@ -11,7 +11,8 @@ use Rattle.up_model.specs.declared.plain_packet.PlainPacket.{PlainPacket}
 abbrev pub IsFramed : List ℕ → Flow → List ℕ → Type 0
 IsFramed bytes [] rest = bytes ≡ rest
 IsFramed bytes (packet ∷ flow) rest =
-    IsLegal packet × ((behind : List ℕ) × (bytes ≡ frame_of packet ++ behind) × IsFramed behind flow rest)
+    IsLegal packet
+    × ((behind : List ℕ) × (bytes ≡ frame_of packet ++ behind) × IsFramed behind flow rest)
 
 -- no frame stands at the front
 abbrev pub HasNoFrame : List ℕ → Type 0

@@ -298,7 +298,8 @@ fn behind_packet(bytes: &[u8]) -> Result<&[u8], NotWhole>
     behind_content(rest, count, size)
 }
 
-/// What is behind the frame at the front of some bytes, or why no whole one stands there. Nothing is allocated.
+/// What is behind the frame at the front of some bytes, or why no whole one stands there. Nothing is
+/// allocated.
 pub fn behind_frame(bytes: &[u8]) -> Result<&[u8], NotWhole>
     // What is passed over is the frame of a legal packet.
     ensures whole { IfOk result (λ rest. BeginsWithFrame bytes.now rest.now) }

@@ -3,7 +3,8 @@ ghost use Rattle.std.specs.Prelude.{◌≡◌, ◌<◌, ◌≤◌, ◌^◌, ◌+
 ghost use Rattle.std.specs.FinMap.{entries, values};
 ghost use Rattle.std.specs.List.{flat_map};
 ghost use Rattle.up_base.specs.Number.{big_endian_bytes};
-ghost use Rattle.up_frame.specs.Spelling.{attribute_bytes, frame_of, head_bytes, named, sized, typed};
+ghost use Rattle.up_frame.specs.Spelling.{attribute_bytes, frame_of, head_bytes};
+ghost use Rattle.up_frame.specs.Spelling.{named, sized, typed};
 ghost use Rattle.up_frame.specs.Types.{number_of};
 ghost use Rattle.up_frame.specs.Writing.{AddsPart};
 ghost use Rattle.up_model.specs.Packet.{IsLegal};
@@ -115,8 +116,8 @@ fn put_bytes<P: LocalPacket>(p: &P, out: &mut Bytes) -> Result<(), NoMemory>
     Ok(())
 }
 
-/// Adds the frame of a packet, the one spelling of it. After `NoMemory` a first part of the frame stands behind what `out`
-/// held, so the caller gives `out` up or remembers where the frame begins.
+/// Adds the frame of a packet, the one spelling of it. After `NoMemory` a first part of the frame
+/// stands behind what `out` held, so the caller gives `out` up or remembers where the frame begins.
 pub fn write_frame<P: LocalPacket>(p: &P, out: &mut Bytes) -> Result<(), NoMemory>
     requires { IsLegal (P.plain p.now) }
     ensures added { OnOk result (out.new ≡ out.old ++ frame_of (P.plain p.now)) }

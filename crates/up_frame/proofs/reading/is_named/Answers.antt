@@ -1,5 +1,5 @@
-use Rattle.std.proofs.Common.{◌≡◌, List, ℕ, Bool, true, false, cond, Result, Ok, Err, refl, sym}
-use Rattle.up_base.specs.Name.{is_name, bad_place}
+use Rattle.std.proofs.Common.{◌≡◌, Bool, true, false, cond, Result, Ok, Err, refl, sym}
+use Rattle.up_base.specs.Name.{is_name}
 use Rattle.up_base.specs.NameOf.{name_of}
 use Rattle.up_frame.proofs.reading.is_named.Goals as goal
 
