@@ -1,0 +1,13 @@
+pub mod AttrBytes
+pub mod Attributes
+pub mod Fields
+pub mod FoundFrames
+pub mod FrameExamples
+pub mod MoreBytes
+pub mod Packets
+pub mod Parts
+pub mod ReadAttributes
+pub mod Shorter
+pub mod Steady
+pub mod Streams
+pub mod Values

@@ -1,0 +1,18 @@
+//! Packets as frames: the one spelling of a packet, and what stands at the front of bytes.
+#![tactic(auto)]
+
+mod laws;
+mod layout;
+mod reading;
+mod writing;
+
+pub use laws::{
+    frames_are_read_back, no_frame_begins_another, what_was_judged_stays, whole_frames_are_all,
+    whole_frames_come_one_by_one,
+};
+pub use layout::{MARK, NotWhole, VERSION};
+pub use reading::behind_frame;
+pub use writing::write_frame;
+
+#[cfg(test)]
+mod tests;

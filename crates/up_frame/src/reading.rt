@@ -1,0 +1,310 @@
+//! What stands at the front of bytes, field by field.
+ghost use Rattle.std.specs.Prelude.{◌≡◌, ◌==◌, nat_le, true, [], length, IfOk};
+ghost use Rattle.std.specs.Cmp.Lexicographic.{slice_cmp};
+ghost use Rattle.std.specs.Ordering.{nat_cmp, is_lt};
+ghost use Rattle.std.specs.Str.{is_utf8};
+ghost use Rattle.up_base.specs.Name.{is_name, is_within};
+ghost use Rattle.up_base.specs.declared.name_text.TheConstants.{NAME_SIZE};
+ghost use Rattle.up_frame.specs.Fronts.{
+  field,
+  number_at,
+  is_any,
+  is_name_behind,
+  type_at,
+  is_size_of,
+  is_value_of,
+  value_at,
+  attribute_at,
+  attributes_at,
+  content_at,
+  packet_at,
+};
+ghost use Rattle.up_frame.specs.Reading.{BeginsWithFrame, Ends, EndsNamed, Gives};
+ghost use Rattle.up_frame.specs.Types.{type_with};
+ghost use Rattle.up_model.specs.declared.limits.TheConstants.{MAX_ATTRS, MAX_PACKET};
+
+use crate::layout::{MARK, NotWhole, VERSION, ValueType};
+use std::cmp::Ordering;
+use up_base::{AttrName, read_u16, read_u32};
+use up_model::{MAX_ATTRS, MAX_PACKET, MAX_VALUE};
+
+/// A field of so many bytes, whatever they are, and what is behind it.
+fn cut(bytes: &[u8], size: usize) -> Result<(&[u8], &[u8]), NotWhole>
+    ensures { Gives (λ x. (x.0.now, x.1.now)) result (field size is_any bytes.now) }
+{
+    if bytes.len() < size {
+        return Err(NotWhole::Unfinished);
+    }
+    Ok(bytes.split_at(size))
+}
+
+/// What is behind a byte that is this number.
+fn behind_byte(bytes: &[u8], number: u8) -> Result<&[u8], NotWhole>
+    ensures { Gives (λ rest. (number, rest.now)) result
+        (number_at 1 (λ byte. byte == number) bytes.now) }
+{
+    match bytes {
+        [] => Err(NotWhole::Unfinished),
+        [first, rest @ ..] => {
+            if *first == number {
+                Ok(rest)
+            } else {
+                Err(NotWhole::Broken)
+            }
+        }
+    }
+}
+
+/// How many bytes a name has.
+fn name_size_at(bytes: &[u8]) -> Result<(usize, &[u8]), NotWhole>
+    ensures { Gives (λ x. (x.0, x.1.now)) result (number_at 1 (is_within 1 NAME_SIZE) bytes.now) }
+{
+    match bytes {
+        [] => Err(NotWhole::Unfinished),
+        [first, rest @ ..] => {
+            if 1 <= *first && *first <= 64 {
+                Ok((*first as usize, rest))
+            } else {
+                Err(NotWhole::Broken)
+            }
+        }
+    }
+}
+
+/// How many attributes there are.
+fn count_at(bytes: &[u8]) -> Result<(u16, &[u8]), NotWhole>
+    ensures { Gives (λ x. (x.0, x.1.now)) result
+        (number_at 2 (λ count. nat_le count MAX_ATTRS) bytes.now) }
+{
+    if bytes.len() < 2 {
+        return Err(NotWhole::Unfinished);
+    }
+    let count = read_u16(bytes, 0);
+    if count as usize > MAX_ATTRS {
+        return Err(NotWhole::Broken);
+    }
+    Ok((count, &bytes[2..]))
+}
+
+/// How many bytes the packet has.
+fn size_at(bytes: &[u8]) -> Result<(u32, &[u8]), NotWhole>
+    ensures { Gives (λ x. (x.0, x.1.now)) result
+        (number_at 4 (λ size. nat_le size MAX_PACKET) bytes.now) }
+{
+    if bytes.len() < 4 {
+        return Err(NotWhole::Unfinished);
+    }
+    let size = read_u32(bytes, 0);
+    if size > MAX_PACKET {
+        return Err(NotWhole::Broken);
+    }
+    Ok((size, &bytes[4..]))
+}
+
+/// Whether a value of this type may have so many bytes.
+fn may_have(type_: ValueType, size: u32) -> bool
+    ensures { result ≡ is_size_of type_ size }
+{
+    match type_ {
+        ValueType::Void => size == 0,
+        ValueType::Flag => size == 1,
+        ValueType::Unsigned => size == 8,
+        ValueType::Words => size as usize <= MAX_VALUE,
+        ValueType::Opaque => size as usize <= MAX_VALUE,
+    }
+}
+
+/// How many bytes a value of this type has.
+fn value_size_at(bytes: &[u8], type_: ValueType) -> Result<(u32, &[u8]), NotWhole>
+    ensures front { Gives (λ x. (x.0, x.1.now)) result
+        (number_at 4 (is_size_of type_) bytes.now) }
+    ensures size { IfOk result (λ x. is_size_of type_ x.0 ≡ true) }
+{
+    if bytes.len() < 4 {
+        return Err(NotWhole::Unfinished);
+    }
+    let size = read_u32(bytes, 0);
+    if !may_have(type_, size) {
+        return Err(NotWhole::Broken);
+    }
+    Ok((size, &bytes[4..]))
+}
+
+/// The type with this number.
+fn type_numbered(number: u8) -> Option<ValueType>
+    ensures { result ≡ type_with number }
+{
+    match number {
+        1 => Some(ValueType::Void),
+        2 => Some(ValueType::Flag),
+        3 => Some(ValueType::Unsigned),
+        4 => Some(ValueType::Words),
+        5 => Some(ValueType::Opaque),
+        _ => None,
+    }
+}
+
+/// The type whose number comes first.
+fn front_type(bytes: &[u8]) -> Result<(ValueType, &[u8]), NotWhole>
+    ensures { Gives (λ x. (x.0, x.1.now)) result (type_at bytes.now) }
+{
+    match bytes {
+        [] => Err(NotWhole::Unfinished),
+        [number, rest @ ..] => match type_numbered(*number) {
+            Some(type_) => Ok((type_, rest)),
+            None => Err(NotWhole::Broken),
+        },
+    }
+}
+
+/// Whether the bytes are a name.
+fn is_named(name: &[u8]) -> bool
+    ensures { result ≡ is_name name.now }
+{
+    match AttrName::read(name) {
+        Ok(_) => true,
+        Err(_) => false,
+    }
+}
+
+/// Whether one is less than the other in byte order.
+fn is_before(before: &[u8], name: &[u8]) -> bool
+    ensures { result ≡ is_lt (slice_cmp nat_cmp before.now name.now) }
+{
+    match before.cmp(name) {
+        Ordering::Less => true,
+        Ordering::Equal | Ordering::Greater => false,
+    }
+}
+
+/// Whether the bytes are a name that stands behind another in byte order.
+fn is_behind(before: &[u8], name: &[u8]) -> bool
+    ensures { result ≡ is_name_behind before.now name.now }
+{
+    is_named(name) && is_before(before, name)
+}
+
+/// Whether the bytes are UTF-8.
+fn is_text(bytes: &[u8]) -> bool
+    ensures { result ≡ is_utf8 bytes.now }
+{
+    match std::str::from_utf8(bytes) {
+        Ok(_) => true,
+        Err(_) => false,
+    }
+}
+
+/// Whether a value of this type may be these bytes.
+fn may_be(type_: ValueType, bytes: &[u8]) -> bool
+    requires { is_size_of type_ (length bytes.now) ≡ true }
+    ensures { result ≡ is_value_of type_ bytes.now }
+{
+    match type_ {
+        ValueType::Flag => bytes[0] <= 1,
+        ValueType::Words => is_text(bytes),
+        ValueType::Void | ValueType::Unsigned | ValueType::Opaque => true,
+    }
+}
+
+/// A name of so many bytes that stands behind another.
+fn name_at<'a>(
+    bytes: &'a [u8],
+    size: usize,
+    before: &[u8],
+) -> Result<(&'a [u8], &'a [u8]), NotWhole>
+    ensures { Gives (λ x. (x.0.now, x.1.now)) result
+        (field size (is_name_behind before.now) bytes.now) }
+{
+    if bytes.len() < size {
+        return Err(NotWhole::Unfinished);
+    }
+    let (name, rest) = bytes.split_at(size);
+    if !is_behind(before, name) {
+        return Err(NotWhole::Broken);
+    }
+    Ok((name, rest))
+}
+
+/// A value of so many bytes, and what is behind it.
+fn content_of(bytes: &[u8], size: usize, type_: ValueType) -> Result<(&[u8], &[u8]), NotWhole>
+    requires { is_size_of type_ size ≡ true }
+    ensures { Gives (λ x. (x.0.now, x.1.now)) result (field size (is_value_of type_) bytes.now) }
+{
+    if bytes.len() < size {
+        return Err(NotWhole::Unfinished);
+    }
+    let (value, rest) = bytes.split_at(size);
+    if !may_be(type_, value) {
+        return Err(NotWhole::Broken);
+    }
+    Ok((value, rest))
+}
+
+/// What is behind a value of this type and its length.
+#[tactic(auto, unfolding(crate::specs::Fronts::value_at))]
+fn behind_value(bytes: &[u8], type_: ValueType) -> Result<&[u8], NotWhole>
+    ensures { Ends (λ rest. rest.now) result (value_at type_ bytes.now) }
+{
+    let (size, rest) = value_size_at(bytes, type_)?;
+    let (_, rest) = content_of(rest, size as usize, type_)?;
+    Ok(rest)
+}
+
+/// The name of an attribute behind another, and what is behind the attribute.
+#[tactic(auto, unfolding(crate::specs::Fronts::attribute_at))]
+fn attribute<'a>(bytes: &'a [u8], before: &[u8]) -> Result<(&'a [u8], &'a [u8]), NotWhole>
+    ensures { EndsNamed (λ x. x.0.now) (λ x. x.1.now) result (attribute_at before.now bytes.now) }
+{
+    let (size, rest) = name_size_at(bytes)?;
+    let (name, rest) = name_at(rest, size, before)?;
+    let (type_, rest) = front_type(rest)?;
+    let rest = behind_value(rest, type_)?;
+    Ok((name, rest))
+}
+
+/// What is behind so many attributes.
+fn behind_attributes(bytes: &[u8], count: u16) -> Result<&[u8], NotWhole>
+    ensures { Ends (λ rest. rest.now) result (attributes_at count [] bytes.now) }
+{
+    let mut before: &[u8] = &[];
+    let mut rest = bytes;
+    for _ in 0..count {
+        let (name, after) = attribute(rest, before)?;
+        before = name;
+        rest = after;
+    }
+    Ok(rest)
+}
+
+/// What is behind so many attributes and so many bytes.
+#[tactic(auto, unfolding(crate::specs::Fronts::content_at))]
+fn behind_content(bytes: &[u8], count: u16, size: u32) -> Result<&[u8], NotWhole>
+    ensures { Ends (λ rest. rest.now) result (content_at count size bytes.now) }
+{
+    let rest = behind_attributes(bytes, count)?;
+    let (_, rest) = cut(rest, size as usize)?;
+    Ok(rest)
+}
+
+/// What is behind a frame.
+#[tactic(auto, unfolding(crate::specs::Fronts::packet_at))]
+fn behind_packet(bytes: &[u8]) -> Result<&[u8], NotWhole>
+    ensures { Ends (λ rest. rest.now) result (packet_at bytes.now) }
+{
+    let rest = behind_byte(bytes, MARK)?;
+    let rest = behind_byte(rest, VERSION)?;
+    let (count, rest) = count_at(rest)?;
+    let (size, rest) = size_at(rest)?;
+    behind_content(rest, count, size)
+}
+
+/// What is behind the frame at the front of some bytes, or why no whole one stands there. Nothing is
+/// allocated.
+pub fn behind_frame(bytes: &[u8]) -> Result<&[u8], NotWhole>
+    // What is passed over is the frame of a legal packet.
+    ensures whole { IfOk result (λ rest. BeginsWithFrame bytes.now rest.now) }
+    // What the front is, and which refusal it is.
+    ensures front { Ends (λ rest. rest.now) result (packet_at bytes.now) }
+{
+    behind_packet(bytes)
+}
