@@ -1,4 +1,7 @@
 // Made graphs, run on one thread: all that a run leaves is what the slow meaning says of what its sources gave.
+ghost use Rattle.std.specs.Prelude.{IfOk};
+ghost use Rattle.up_model.specs.WellFormed.{IsWellFormed};
+
 use crate::grove_runs::{Fault, Manner, places_on, run_grove};
 use crate::made_groves::{Tree, grove_rows, trees_of};
 use crate::made_trees::Dice;
@@ -25,7 +28,9 @@ const WRITES: [(usize, u32); 4] = [(1, 30), (3, 12), (7, 6), (1_000, 4)];
 const LIMITS: [(usize, u32); 3] = [(1, 62), (7, 8), (1_000, 30)];
 
 /// The graph of these trees.
-fn grove(rt: &impl Abort, alloc: Global, seed: u32, trees: &[Tree]) -> Result<Split, Fail> {
+fn grove(rt: &impl Abort, alloc: Global, seed: u32, trees: &[Tree]) -> Result<Split, Fail>
+    ensures { IfOk result (λ split. IsWellFormed split.graph.pipes) }
+{
     let rows = grove_rows(alloc, seed, trees)?;
     Split::of(rt, alloc, &rows)
 }

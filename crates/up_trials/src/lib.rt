@@ -16,6 +16,8 @@ mod grove_runs;
 #[cfg(test)]
 mod grove_tests;
 #[cfg(test)]
+mod lane_flags;
+#[cfg(test)]
 mod lane_tests;
 #[cfg(test)]
 mod left;
@@ -33,6 +35,8 @@ mod made_trees_tests;
 mod memory_tests;
 #[cfg(test)]
 mod outcome_tests;
+#[cfg(test)]
+mod plain_copies;
 #[cfg(test)]
 mod row;
 #[cfg(test)]
