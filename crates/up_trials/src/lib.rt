@@ -8,6 +8,8 @@ mod before_faults;
 #[cfg(test)]
 mod branch_tests;
 #[cfg(test)]
+mod closing_tests;
+#[cfg(test)]
 mod graph_runs;
 #[cfg(test)]
 mod graph_tests;
@@ -25,6 +27,8 @@ mod left;
 mod lent_packet;
 #[cfg(test)]
 mod limit_tests;
+#[cfg(test)]
+mod listing_depot;
 #[cfg(test)]
 mod made_groves;
 #[cfg(test)]
