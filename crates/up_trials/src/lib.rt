@@ -42,6 +42,8 @@ mod outcome_tests;
 #[cfg(test)]
 mod plain_copies;
 #[cfg(test)]
+mod room_tests;
+#[cfg(test)]
 mod row;
 #[cfg(test)]
 mod run;
