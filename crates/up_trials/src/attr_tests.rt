@@ -4,13 +4,14 @@ ghost use Rattle.up_shape.specs.VecPackets.{plain_of};
 ghost use Rattle.up_trials.specs.Standing.{IsVecStrand};
 
 use crate::left::{finish, sums};
+use crate::plain_copies::set_flag;
 use crate::row::{CAPTURE, Does, Row, pipe_row};
 use crate::run::{Tried, give_end, give_packet, packet_of, take_out};
 use crate::split::Split;
 use std::process::Abort;
 use std::test::Fail;
-use up_base::{AttrName, NoMemory};
-use up_model::{MAX_ATTRS, Outcome, ValueView, packets_stay_legal};
+use up_base::AttrName;
+use up_model::{Outcome, ValueView};
 use up_outside::MemDepot;
 use up_queue::{EndKind, Item};
 use up_shape::{LocalPacket, VecPacket, VecStore};
@@ -30,28 +31,14 @@ fn behind_lane() -> [Row; 7] {
     ]
 }
 
-/// Sets a flag of this name.
-fn set_flag(rt: &impl Abort, packet: &mut VecPacket, name: &str)
-    requires { IsLegal (plain_of packet.old) }
-    ensures { IsLegal (plain_of packet.new) }
-{
-    let name = AttrName::read(name.as_bytes()).expect(rt, "no name");
-    packets_stay_legal();
-    assert!(rt; !name.bytes().is_empty());
-    assert!(rt; packet.attr_count() < MAX_ATTRS);
-    match packet.set_attr(&name, ValueView::Flag(true)) {
-        Ok(()) => {}
-        Err(NoMemory) => panic!(rt; "no memory"),
-    }
-}
-
 /// A packet with flags of these names.
 fn flagged(rt: &impl Abort, bytes: &[u8], names: &[&str], s: &mut VecStore) -> VecPacket
     ensures { IsLegal (plain_of result) }
 {
     let mut packet = packet_of(rt, bytes, s);
     for name in names {
-        set_flag(rt, &mut packet, name);
+        let name = AttrName::read(name.as_bytes()).expect(rt, "no name");
+        set_flag(rt, &mut packet, &name, ValueView::Flag(true));
     }
     packet
 }

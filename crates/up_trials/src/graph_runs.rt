@@ -1,4 +1,6 @@
 // Graphs that are run on this thread over memory, and what is left of a run.
+ghost use Rattle.up_model.specs.WellFormed.{IsWellFormed};
+
 use crate::left::{assert_outcomes, assert_tallies};
 use crate::row::Row;
 use crate::split::Split;
@@ -23,9 +25,10 @@ pub(crate) fn run_graph(
     alloc: Global,
     split: &Split,
     depot: &mut MemDepot,
-) -> Ran {
+) -> Ran
+    requires well_formed { IsWellFormed split.now.graph.pipes }
+{
     let s = &mut VecStore::new(alloc);
-    assert!(rt; split.graph.is_well_formed());
     match run_one_thread::<VecPacket, MemDepot>(alloc, &split.graph, depot, s) {
         RunOutcome::Ended { outcomes, tallies } => Ran { outcomes, tallies },
         RunOutcome::NoMemory => panic!(rt; "no memory"),

@@ -1,8 +1,9 @@
 // Graphs of a few pipes, run on one thread, with what they come to by hand.
 use crate::graph_runs::{assert_asked, assert_held, closed, closed_after_fault, run_pipes};
 use crate::left::sums;
-use crate::row::{Does, Row, pipe_row};
+use crate::row::{CAPTURE, Does, Row, pipe_row};
 use std::alloc::Global;
+use std::process::Abort;
 use std::test::Fail;
 use up_model::{CatchSet, MAX_LIMIT, Outcome};
 use up_outside::{DepotCall, MemDepot, Side};
@@ -50,6 +51,19 @@ fn a_skip_takes_a_byte_off_each_packet_of_its_lane(rt: HostRuntime) -> Result<()
         ("pipe2", Side::Sink, closed(3)),
     ];
     assert_asked(&rt, &depot, &asked);
+    Ok(())
+}
+
+#[test]
+fn a_skip_of_two_bytes_drops_the_last_block_of_one(rt: HostRuntime) -> Result<(), Fail> {
+    let alloc = rt.alloc();
+    let mut depot = depot_of(alloc, b"abcdefg")?;
+    let mut rows = through(Does::Skip(2));
+    rows[0].does = CAPTURE;
+    let ran = run_pipes(&rt, alloc, &rows, &mut depot)?;
+    ran.assert_ends(&rt, &[Outcome::Whole; 3]);
+    ran.assert_sums(&rt, &[sums(0, 3, 0, 0), sums(3, 2, 1, 5), sums(2, 0, 0, 0)]);
+    assert_held(&rt, &depot, &[("pipe2", b"cf")]);
     Ok(())
 }
 
@@ -154,33 +168,76 @@ fn pipes_are_told_in_the_order_of_the_file(rt: HostRuntime) -> Result<(), Fail> 
     Ok(())
 }
 
+/// A source of packets of two bytes with a limit, and what comes of it: how it and the sink
+/// behind it end, how many bytes are read, and which are written.
+#[derive(Clone, Copy)]
+struct LimitCase<'a> {
+    limit: u64,
+    bytes: &'a [u8],
+    source: Outcome,
+    sink: Outcome,
+    moved: u64,
+    written: &'a [u8],
+}
+
+/// All of the input is read and written.
+fn within(limit: u64, bytes: &[u8]) -> LimitCase<'_> {
+    LimitCase {
+        limit,
+        bytes,
+        source: Outcome::Whole,
+        sink: Outcome::Whole,
+        moved: bytes.len() as u64,
+        written: bytes,
+    }
+}
+
+/// One byte more than the limit is read, and this is written.
+fn past<'a>(limit: u64, bytes: &'a [u8], written: &'a [u8]) -> LimitCase<'a> {
+    LimitCase {
+        limit,
+        bytes,
+        source: Outcome::TooLong { limit },
+        sink: Outcome::Broken,
+        moved: limit.saturating_add(1),
+        written,
+    }
+}
+
+/// Runs such a source and a sink behind its lane.
+fn run_case(rt: &impl Abort, alloc: Global, case: &LimitCase<'_>) -> Result<(), Fail> {
+    let mut depot = depot_of(alloc, case.bytes)?;
+    let source = Does::Source {
+        block: 2,
+        limit: case.limit,
+    };
+    let rows = [
+        short_row(source, "one", None),
+        short_row(Does::Sink, "two", Some(0)),
+    ];
+    let ran = run_pipes(rt, alloc, &rows, &mut depot)?;
+    ran.assert_ends(rt, &[case.source, case.sink]);
+    let asked = [
+        ("pipe0", Side::Source, closed(case.moved)),
+        ("pipe1", Side::Sink, closed(case.written.len() as u64)),
+    ];
+    assert_asked(rt, &depot, &asked);
+    assert_held(rt, &depot, &[("pipe1", case.written)]);
+    Ok(())
+}
+
 #[test]
 fn a_source_within_its_limit_is_whole_and_past_it_too_long(rt: HostRuntime) -> Result<(), Fail> {
-    let alloc = rt.alloc();
-    let past = |limit| Outcome::TooLong { limit };
-    let (whole, broken) = (Outcome::Whole, Outcome::Broken);
-    let cases: [(u64, &[u8], Outcome, Outcome, u64, &[u8]); 6] = [
-        (0, b"", whole, whole, 0, b""),
-        (0, b"a", past(0), broken, 1, b""),
-        (1, b"a", whole, whole, 1, b"a"),
-        (1, b"ab", past(1), broken, 2, b""),
-        (3, b"abcde", past(3), broken, 4, b"ab"),
-        (4, b"abcd", whole, whole, 4, b"abcd"),
+    let cases = [
+        within(0, b""),
+        past(0, b"a", b""),
+        within(1, b"a"),
+        past(1, b"ab", b""),
+        past(3, b"abcde", b"ab"),
+        within(4, b"abcd"),
     ];
-    for (limit, bytes, source, sink, moved, written) in cases {
-        let mut depot = depot_of(alloc, bytes)?;
-        let rows = [
-            short_row(Does::Source { block: 2, limit }, "one", None),
-            short_row(Does::Sink, "two", Some(0)),
-        ];
-        let ran = run_pipes(&rt, alloc, &rows, &mut depot)?;
-        ran.assert_ends(&rt, &[source, sink]);
-        let asked = [
-            ("pipe0", Side::Source, closed(moved)),
-            ("pipe1", Side::Sink, closed(written.len() as u64)),
-        ];
-        assert_asked(&rt, &depot, &asked);
-        assert_held(&rt, &depot, &[("pipe1", written)]);
+    for case in &cases {
+        run_case(&rt, rt.alloc(), case)?;
     }
     Ok(())
 }

@@ -114,7 +114,7 @@ fn due_of(
     let wanted = wanted_at(rt, alloc, split, carried, place);
     let all = wanted.written.as_slice();
     let before = match manner.nth(DepotCall::Write, place) {
-        Some(nth) => written_before(&wanted.taken, manner.cut, nth),
+        Some(nth) => written_before(&wanted.sent, manner.cut, nth),
         None => None,
     };
     let count = before.unwrap_or(all.len()).min(all.len());
@@ -143,8 +143,9 @@ fn dues_of(
     split: &Split,
     trees: &[Tree],
     manner: Manner,
-) -> Result<Vec<Due>, Fail> {
-    assert!(rt; split.graph.is_well_formed());
+) -> Result<Vec<Due>, Fail>
+    requires well_formed { IsWellFormed split.now.graph.pipes }
+{
     let sources = places_on(alloc, split, Side::Source)?;
     assert_eq!(rt; sources.len(), trees.len());
     let mut dues = Vec::new(alloc);
@@ -226,7 +227,9 @@ pub(crate) fn run_grove(
     split: &Split,
     trees: &[Tree],
     manner: Manner,
-) -> Result<bool, Fail> {
+) -> Result<bool, Fail>
+    requires well_formed { IsWellFormed split.now.graph.pipes }
+{
     let dues = dues_of(rt, alloc, split, trees, manner)?;
     let mut depot = depot_of(rt, alloc, split, trees, manner)?;
     let ran = run_graph(rt, alloc, split, &mut depot);

@@ -1,4 +1,7 @@
 // Made graphs, run on one thread: all that a run leaves is what the slow meaning says of what its sources gave.
+ghost use Rattle.std.specs.Prelude.{IfOk};
+ghost use Rattle.up_model.specs.WellFormed.{IsWellFormed};
+
 use crate::grove_runs::{Fault, Manner, places_on, run_grove};
 use crate::made_groves::{Tree, grove_rows, trees_of};
 use crate::made_trees::Dice;
@@ -25,7 +28,9 @@ const WRITES: [(usize, u32); 4] = [(1, 30), (3, 12), (7, 6), (1_000, 4)];
 const LIMITS: [(usize, u32); 3] = [(1, 62), (7, 8), (1_000, 30)];
 
 /// The graph of these trees.
-fn grove(rt: &impl Abort, alloc: Global, seed: u32, trees: &[Tree]) -> Result<Split, Fail> {
+fn grove(rt: &impl Abort, alloc: Global, seed: u32, trees: &[Tree]) -> Result<Split, Fail>
+    ensures { IfOk result (λ split. IsWellFormed split.graph.pipes) }
+{
     let rows = grove_rows(alloc, seed, trees)?;
     Split::of(rt, alloc, &rows)
 }
@@ -126,17 +131,33 @@ fn limit_trees(dice: &mut Dice, most: u32, trees: &mut [Tree]) {
     }
 }
 
+/// How many of the trees have more bytes than their limit.
+fn too_long(trees: &[Tree]) -> usize {
+    let is_beyond = |tree: &&Tree| tree.limit < tree.bytes.as_slice().len() as u64;
+    trees.iter().filter(is_beyond).count()
+}
+
+/// Runs the graph of a number with limits: how many of its sources have more bytes.
+fn run_limits(rt: &impl Abort, alloc: Global, seed: u32) -> Result<usize, Fail> {
+    let dice = &mut Dice::new(seed);
+    let mut count: usize = 0;
+    for (cut, most) in LIMITS {
+        let mut trees = trees_of(alloc, seed, MAX_LIMIT)?;
+        limit_trees(dice, most, &mut trees);
+        let split = grove(rt, alloc, seed, &trees)?;
+        run_grove(rt, alloc, &split, &trees, Manner { cut, fault: None })?;
+        count = count.saturating_add(too_long(&trees));
+    }
+    Ok(count)
+}
+
 #[test]
 fn made_graphs_leave_what_is_settled_at_their_limits(rt: HostRuntime) -> Result<(), Fail> {
-    let alloc = rt.alloc();
+    let mut count: usize = 0;
     for seed in 0..GRAPHS {
-        let dice = &mut Dice::new(seed);
-        for (cut, most) in LIMITS {
-            let mut trees = trees_of(alloc, seed, MAX_LIMIT)?;
-            limit_trees(dice, most, &mut trees);
-            let split = grove(&rt, alloc, seed, &trees)?;
-            run_grove(&rt, alloc, &split, &trees, Manner { cut, fault: None })?;
-        }
+        let more = run_limits(&rt, rt.alloc(), seed)?;
+        count = count.saturating_add(more);
     }
+    assert!(rt; count > 100, "only {count} sources too long");
     Ok(())
 }

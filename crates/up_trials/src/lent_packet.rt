@@ -14,19 +14,26 @@ pub(crate) struct LentPacket<'a> {
     pub owner: &'a str,
 }
 
-/// A store of such packets.
+/// A store of such packets, in which only so many rooms are made.
 #[derive(Drop)]
 pub(crate) struct LentStore<'a> {
     store: VecStore,
     owner: &'a str,
+    rooms: usize,
 }
 
 impl<'a> LentStore<'a> {
     /// A store from which nothing was drawn.
     pub fn new(alloc: Global, owner: &'a str) -> LentStore<'a> {
+        LentStore::with_rooms(alloc, owner, usize::MAX)
+    }
+
+    /// The same, in which so many rooms are made and all others are refused.
+    pub fn with_rooms(alloc: Global, owner: &'a str, rooms: usize) -> LentStore<'a> {
         LentStore {
             store: VecStore::new(alloc),
             owner,
+            rooms,
         }
     }
 
@@ -50,6 +57,7 @@ impl<'a> Stash for LentStore<'a> {
         LentStore {
             store: self.store.split(),
             owner: self.owner,
+            rooms: self.rooms,
         }
     }
 
@@ -82,6 +90,10 @@ impl<'a> LocalPacket for LentPacket<'a> {
     ghost room_fits = { λ _ _. Unit {0} };
 
     fn room(size: u32, s: &mut LentStore<'a>) -> Result<VecRoom, NoMemory> {
+        if s.rooms == 0 {
+            return Err(NoMemory);
+        }
+        s.rooms -= 1;
         VecPacket::room(size, &mut s.store)
     }
 

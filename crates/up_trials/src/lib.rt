@@ -8,6 +8,8 @@ mod before_faults;
 #[cfg(test)]
 mod branch_tests;
 #[cfg(test)]
+mod closing_tests;
+#[cfg(test)]
 mod graph_runs;
 #[cfg(test)]
 mod graph_tests;
@@ -16,6 +18,8 @@ mod grove_runs;
 #[cfg(test)]
 mod grove_tests;
 #[cfg(test)]
+mod lane_flags;
+#[cfg(test)]
 mod lane_tests;
 #[cfg(test)]
 mod left;
@@ -23,6 +27,8 @@ mod left;
 mod lent_packet;
 #[cfg(test)]
 mod limit_tests;
+#[cfg(test)]
+mod listing_depot;
 #[cfg(test)]
 mod made_groves;
 #[cfg(test)]
@@ -33,6 +39,10 @@ mod made_trees_tests;
 mod memory_tests;
 #[cfg(test)]
 mod outcome_tests;
+#[cfg(test)]
+mod plain_copies;
+#[cfg(test)]
+mod room_tests;
 #[cfg(test)]
 mod row;
 #[cfg(test)]

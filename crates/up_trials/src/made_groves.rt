@@ -54,7 +54,7 @@ pub(crate) fn grove_rows(alloc: Global, seed: u32, trees: &[Tree]) -> Result<Vec
     let dice = &mut Dice::new(seed);
     let mut rows = Vec::new(alloc);
     for tree in trees {
-        add_tree(alloc, dice, 1 + seed % 4, tree, &mut rows)?;
+        add_tree(alloc, dice, 1 + seed / 8 % 4, tree, &mut rows)?;
     }
     Ok(rows)
 }

@@ -118,7 +118,7 @@ fn add_open(dice: &mut Dice, open: &mut Vec<u16>, place: u16, times: u16) -> Res
 /// A source and up to eleven pipes behind it, each behind its input.
 fn made_tree(alloc: Global, dice: &mut Dice, limit: u64) -> Result<Vec<Row>, Fail> {
     let mut rows = Vec::new(alloc);
-    let block = 1 + dice.roll(7);
+    let block = 1 + dice.roll(10);
     rows.push(Row {
         does: Does::Source { block, limit },
         worker: WORKERS[0],

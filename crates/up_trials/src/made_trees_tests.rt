@@ -1,5 +1,9 @@
-// Made graphs, cut and ended at many points: all strands come to the slow meaning.
+// Made graphs, cut and ended at each point: all strands come to the slow meaning.
+ghost use Rattle.std.specs.Prelude.{IfOk};
+ghost use Rattle.up_model.specs.WellFormed.{IsWellFormed};
+
 use crate::before_faults::read_before;
+use crate::lane_flags::flagged;
 use crate::left::finish;
 use crate::made_trees::{Dice, made_bytes, made_rows};
 use crate::run::{MANY, Tried, run_out};
@@ -9,7 +13,7 @@ use crate::split::Split;
 use std::alloc::Global;
 use std::process::Abort;
 use std::test::Fail;
-use up_model::{MAX_LIMIT, Outcome};
+use up_model::{MAX_LIMIT, Outcome, PlainPacket};
 use up_outside::{DepotCall, MemDepot};
 use up_queue::{EndKind, Item};
 use up_shape::{VecPacket, VecStore};
@@ -21,20 +25,22 @@ const GRAPHS: u32 = 200;
 /// The most bytes that a read gives.
 const CUTS: [usize; 4] = [1, 3, 7, 1_000];
 
-/// The most bytes that a read gives, and the most reads up to one that fails.
-const FAULTS: [(usize, u32); 4] = [(1, 70), (3, 24), (7, 12), (1_000, 6)];
+/// The same, where reads are short and where they are long.
+const SHORT_CUTS: [usize; 2] = [1, 3];
 
-/// The most bytes that a read gives, and a number above the limit.
-const LIMITS: [(usize, u32); 3] = [(1, 62), (7, 8), (1_000, 30)];
+const LONG_CUTS: [usize; 2] = [7, 1_000];
 
-/// Copies what went out for a lane.
-fn items_of(rt: &impl Abort, alloc: Global, sent: &[Sent], lane: u16) -> Vec<Item<Vec<u8>>> {
+/// More reads than any made graph takes.
+const READS: u32 = 100;
+
+/// What comes through a lane, of which some packets have flags.
+fn items_of(rt: &impl Abort, alloc: Global, sent: &[Sent], lane: u16) -> Vec<Item<PlainPacket>> {
     let mut items = Vec::new(alloc);
     for one in sent {
         if one.lane == lane {
             let item = match &one.item {
-                Item::Packet(bytes) => {
-                    Item::Packet(Vec::from_slice(alloc, bytes).expect(rt, "no memory"))
+                Item::Packet(packet) => {
+                    Item::Packet(flagged(rt, alloc, packet, items.len()))
                 }
                 Item::End(kind) => Item::End(*kind),
             };
@@ -66,7 +72,9 @@ fn run_strand(
     head: u16,
     depot: &mut MemDepot,
     sent: &mut Vec<Sent>,
-) {
+)
+    requires well_formed { IsWellFormed split.now.graph.pipes }
+{
     let s = &mut VecStore::new(alloc);
     let items = items_of(rt, alloc, sent, head);
     let mut strand: Tried<VecPacket> = split.strand(rt, alloc, head, depot);
@@ -84,7 +92,9 @@ fn run_strands(
     split: &Split,
     wanted: &WantedList,
     depot: &mut MemDepot,
-) -> Vec<Sent> {
+) -> Vec<Sent>
+    requires well_formed { IsWellFormed split.now.graph.pipes }
+{
     let mut sent = Vec::new(alloc);
     let mut count: usize = 1;
     run_strand(
@@ -120,7 +130,9 @@ fn assert_lanes(rt: &impl Abort, split: &Split, wanted: &WantedList, end: EndKin
 }
 
 /// The split of the graph of a number, whose source has this limit.
-fn made(rt: &impl Abort, alloc: Global, seed: u32, limit: u64) -> Result<Split, Fail> {
+fn made(rt: &impl Abort, alloc: Global, seed: u32, limit: u64) -> Result<Split, Fail>
+    ensures { IfOk result (λ split. IsWellFormed split.graph.pipes) }
+{
     let rows = made_rows(alloc, seed, limit)?;
     Split::of(rt, alloc, &rows)
 }
@@ -152,7 +164,9 @@ fn run_made(
     wanted: &WantedList,
     end: EndKind,
     depot: &mut MemDepot,
-) {
+)
+    requires well_formed { IsWellFormed split.now.graph.pipes }
+{
     let sent = run_strands(rt, alloc, split, wanted, depot);
     assert_lanes(rt, split, wanted, end, &sent);
 }
@@ -177,7 +191,7 @@ fn made_graphs_come_to_the_slow_meaning_however_reads_are_cut(rt: HostRuntime) -
     Ok(())
 }
 
-/// Runs a graph where a read fails.
+/// Runs a graph where a read fails. Says whether it comes to that read.
 fn run_fault(
     rt: &impl Abort,
     alloc: Global,
@@ -185,7 +199,9 @@ fn run_fault(
     cut: usize,
     nth: u32,
     bytes: &[u8],
-) -> Result<(), Fail> {
+) -> Result<bool, Fail>
+    requires well_formed { IsWellFormed split.now.graph.pipes }
+{
     let block = split.block_at(rt, usize::from(split.first_head(rt)));
     let read = read_before(bytes.len(), block, cut, nth);
     let ended = if read.is_some() {
@@ -201,31 +217,73 @@ fn run_fault(
     let wanted = wanted_of(rt, alloc, split, &carried);
     let mut depot = depot_of(rt, alloc, split, cut, Some(nth), bytes)?;
     run_made(rt, alloc, split, &wanted, carried.end(), &mut depot);
-    Ok(())
+    Ok(read.is_some())
+}
+
+/// Runs a graph so often that each of its reads fails once: how many there are.
+fn run_faults(
+    rt: &impl Abort,
+    alloc: Global,
+    split: &Split,
+    cut: usize,
+    bytes: &[u8],
+) -> Result<u32, Fail>
+    requires well_formed { IsWellFormed split.now.graph.pipes }
+{
+    for nth in 1..READS {
+        if !run_fault(rt, alloc, split, cut, nth, bytes)? {
+            return Ok(nth - 1);
+        }
+    }
+    panic!(rt; "there is no end of the reads")
+}
+
+/// Lets each read of all graphs fail, which give at most so many bytes: how many there are.
+fn run_all_faults(rt: &impl Abort, alloc: Global, cut: usize) -> Result<u32, Fail> {
+    let mut count: u32 = 0;
+    for seed in 0..GRAPHS {
+        let split = made(rt, alloc, seed, MAX_LIMIT)?;
+        let bytes = made_bytes(alloc, &mut Dice::new(seed))?;
+        let more = run_faults(rt, alloc, &split, cut, bytes.as_slice())?;
+        count = count.saturating_add(more);
+    }
+    Ok(count)
 }
 
 #[test]
 fn made_graphs_come_to_what_is_settled_where_a_read_fails(rt: HostRuntime) -> Result<(), Fail> {
-    let alloc = rt.alloc();
-    for seed in 0..GRAPHS {
-        let split = made(&rt, alloc, seed, MAX_LIMIT)?;
-        let dice = &mut Dice::new(seed);
-        let bytes = made_bytes(alloc, dice)?;
-        for (cut, most) in FAULTS {
-            let nth = 1 + dice.roll(most.max(1));
-            run_fault(&rt, alloc, &split, cut, nth, bytes.as_slice())?;
-        }
+    for cut in LONG_CUTS {
+        let count = run_all_faults(&rt, rt.alloc(), cut)?;
+        assert!(rt; count > 1_000, "only {count} reads");
     }
     Ok(())
 }
 
-/// Runs the graph of a number whose source has this limit.
+#[test]
+fn made_graphs_come_to_what_is_settled_where_a_read_of_a_byte_fails(
+    rt: HostRuntime,
+) -> Result<(), Fail> {
+    let count = run_all_faults(&rt, rt.alloc(), 1)?;
+    assert!(rt; count > 5_000, "only {count} reads");
+    Ok(())
+}
+
+#[test]
+fn made_graphs_come_to_what_is_settled_where_a_read_of_three_bytes_fails(
+    rt: HostRuntime,
+) -> Result<(), Fail> {
+    let count = run_all_faults(&rt, rt.alloc(), 3)?;
+    assert!(rt; count > 2_000, "only {count} reads");
+    Ok(())
+}
+
+/// Runs the graph of a number whose source has this limit, with each of these cuts.
 fn run_limit(
     rt: &impl Abort,
     alloc: Global,
     seed: u32,
-    cut: usize,
     limit: u64,
+    cuts: &[usize],
     bytes: &[u8],
 ) -> Result<(), Fail> {
     let ended = if limit < bytes.len() as u64 {
@@ -239,8 +297,37 @@ fn run_limit(
     };
     let split = made(rt, alloc, seed, limit)?;
     let wanted = wanted_of(rt, alloc, &split, &carried);
-    let mut depot = depot_of(rt, alloc, &split, cut, None, bytes)?;
-    run_made(rt, alloc, &split, &wanted, carried.end(), &mut depot);
+    for cut in cuts {
+        let mut depot = depot_of(rt, alloc, &split, *cut, None, bytes)?;
+        run_made(rt, alloc, &split, &wanted, carried.end(), &mut depot);
+    }
+    Ok(())
+}
+
+/// Runs the graph of a number with each limit up to the length of its input.
+fn run_limits(rt: &impl Abort, alloc: Global, seed: u32) -> Result<(), Fail> {
+    let bytes = made_bytes(alloc, &mut Dice::new(seed))?;
+    let bytes = bytes.as_slice();
+    for limit in 0..=bytes.len() as u64 {
+        run_limit(rt, alloc, seed, limit, &LONG_CUTS, bytes)?;
+    }
+    Ok(())
+}
+
+#[test]
+fn made_graphs_come_to_what_is_settled_at_every_limit(rt: HostRuntime) -> Result<(), Fail> {
+    for half in 0..GRAPHS / 2 {
+        run_limits(&rt, rt.alloc(), half * 2)?;
+    }
+    Ok(())
+}
+
+/// The pipes of a graph of an odd number are turned.
+#[test]
+fn turned_graphs_come_to_what_is_settled_at_every_limit(rt: HostRuntime) -> Result<(), Fail> {
+    for half in 0..GRAPHS / 2 {
+        run_limits(&rt, rt.alloc(), half * 2 + 1)?;
+    }
     Ok(())
 }
 
@@ -250,13 +337,8 @@ fn made_graphs_come_to_what_is_settled_at_their_limit(rt: HostRuntime) -> Result
     for seed in 0..GRAPHS {
         let dice = &mut Dice::new(seed);
         let bytes = made_bytes(alloc, dice)?;
-        let count = bytes.as_slice().len() as u64;
-        let exact = count.saturating_sub(u64::from(dice.roll(2)));
-        run_limit(&rt, alloc, seed, 3, exact, bytes.as_slice())?;
-        for (cut, most) in LIMITS {
-            let limit = u64::from(dice.roll(most.max(1)));
-            run_limit(&rt, alloc, seed, cut, limit, bytes.as_slice())?;
-        }
+        let limit = u64::from(dice.roll(62));
+        run_limit(&rt, alloc, seed, limit, &SHORT_CUTS, bytes.as_slice())?;
     }
     Ok(())
 }

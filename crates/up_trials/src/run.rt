@@ -7,10 +7,11 @@ ghost use Rattle.up_strand.specs.Strands.{want_of};
 ghost use Rattle.up_strand.specs.declared.want.Want.TheVariants as wants;
 ghost use Rattle.up_trials.specs.Standing.{IsAtWork, IsVecStrand};
 
+use crate::plain_copies::{packet_like, plain_copy};
 use crate::sent::Sent;
 use std::alloc::Global;
 use std::process::Abort;
-use up_model::{MAX_PACKET, packets_stay_legal};
+use up_model::{MAX_PACKET, PlainPacket, packets_stay_legal};
 use up_outside::{MemSink, MemSource};
 use up_queue::{EndKind, Item};
 use up_shape::{LocalPacket, VecPacket, VecStore};
@@ -36,28 +37,21 @@ pub(crate) fn packet_of<P: LocalPacket>(rt: &impl Abort, bytes: &[u8], s: &mut P
     }
 }
 
-/// The bytes of a packet.
-fn bytes_of<P: LocalPacket>(rt: &impl Abort, alloc: Global, p: &P) -> Vec<u8> {
-    let mut bytes = vec![in alloc; 0; p.size() as usize].expect(rt, "no memory");
-    p.read(0, &mut bytes);
-    bytes
-}
-
-/// An item with the bytes of its packet, which is given up.
+/// An item with the plain packet of its packet, which is given up.
 pub(crate) fn copy_item<P: LocalPacket>(
     rt: &impl Abort,
     alloc: Global,
     item: Item<P>,
     s: &mut P::Store,
-) -> Item<Vec<u8>>
+) -> Item<PlainPacket>
     requires item { ItemFits P.fits (P.Store.state s.old).family item }
     ensures family { (P.Store.state s.new).family ≡ (P.Store.state s.old).family }
 {
     match item {
         Item::Packet(p) => {
-            let bytes = bytes_of(rt, alloc, &p);
+            let plain = plain_copy(rt, alloc, &p);
             p.give_up(s);
-            Item::Packet(bytes)
+            Item::Packet(plain)
         }
         Item::End(kind) => Item::End(kind),
     }
@@ -184,11 +178,11 @@ pub(crate) fn run_source<P: LocalPacket>(
     panic!(rt; "there is no end of its source")
 }
 
-/// Feeds a strand an item with these bytes.
+/// Feeds a strand a copy of this item.
 fn give_copy<P: LocalPacket>(
     rt: &impl Abort,
     strand: &mut Tried<P>,
-    item: &Item<Vec<u8>>,
+    item: &Item<PlainPacket>,
     s: &mut P::Store,
 )
     requires work { IsAtWork P.plain P.fits (P.Store.state s.old).family strand.old }
@@ -196,8 +190,8 @@ fn give_copy<P: LocalPacket>(
     ensures work { IsAtWork P.plain P.fits (P.Store.state s.new).family strand.new }
 {
     match item {
-        Item::Packet(bytes) => {
-            let p = packet_of::<P>(rt, bytes, s);
+        Item::Packet(plain) => {
+            let p = packet_like::<P>(rt, plain, s);
             step_on(strand, Item::Packet(p), s);
         }
         Item::End(kind) => step_on(strand, Item::End(*kind), s),
@@ -209,7 +203,7 @@ pub(crate) fn give<P: LocalPacket>(
     rt: &impl Abort,
     alloc: Global,
     strand: &mut Tried<P>,
-    item: &Item<Vec<u8>>,
+    item: &Item<PlainPacket>,
     sent: &mut Vec<Sent>,
     s: &mut P::Store,
 )
@@ -227,7 +221,7 @@ pub(crate) fn give_all<P: LocalPacket>(
     rt: &impl Abort,
     alloc: Global,
     strand: &mut Tried<P>,
-    items: &[Item<Vec<u8>>],
+    items: &[Item<PlainPacket>],
     sent: &mut Vec<Sent>,
     s: &mut P::Store,
 )
@@ -245,7 +239,7 @@ pub(crate) fn run_out<P: LocalPacket>(
     alloc: Global,
     strand: &mut Tried<P>,
     source: bool,
-    items: &[Item<Vec<u8>>],
+    items: &[Item<PlainPacket>],
     sent: &mut Vec<Sent>,
     s: &mut P::Store,
 )

@@ -34,7 +34,6 @@ const SHORT: [(usize, &[u8], &[u8], &[u8]); 7] = [
 fn a_run_without_memory_closes_all_and_tells_nothing_else(rt: HostRuntime) -> Result<(), Fail> {
     let alloc = rt.alloc();
     let split = Split::of(&rt, alloc, &fan())?;
-    assert!(rt; split.graph.is_well_formed());
     for (dups, first, second, third) in SHORT {
         let s = &mut TrialStore::new(alloc, dups);
         let mut depot = MemDepot::new(alloc);

@@ -1,5 +1,6 @@
 // Strands whose memory runs out, at a `dup` of a packet that is refused.
 use crate::left::{Left, finish, run_rows};
+use crate::plain_copies::bare;
 use crate::row::{CAPTURE, Does, Row, pipe_row};
 use crate::run::{Tried, give_all};
 use crate::sent::{Sent, assert_sent};
@@ -67,8 +68,7 @@ fn a_source_stops_where_a_second_packet_is_refused(rt: HostRuntime) -> Result<()
         } else {
             EndKind::Whole
         };
-        let last = sent.last().map(|sent| &sent.item);
-        assert_eq!(rt; last, Some(&Item::End(end)), "{dups}");
+        assert!(rt; sent.last().is_some_and(|last| last.is_end(end)), "{dups}");
         left.assert_ends(&rt, &[first, second], &[outcome; 4]);
     }
     Ok(())
@@ -111,9 +111,9 @@ fn what_comes_through_a_lane_once_memory_ran_out_is_given_up(rt: HostRuntime) ->
     let alloc = rt.alloc();
     for end in [EndKind::Whole, EndKind::Broken] {
         let items = [
-            Item::Packet(Vec::from_slice(alloc, b"ab")?),
-            Item::Packet(Vec::from_slice(alloc, b"cd")?),
-            Item::Packet(Vec::from_slice(alloc, b"ef")?),
+            Item::Packet(bare(&rt, alloc, b"ab")),
+            Item::Packet(bare(&rt, alloc, b"cd")),
+            Item::Packet(bare(&rt, alloc, b"ef")),
             Item::End(end),
         ];
         let mut sent = Vec::new(alloc);

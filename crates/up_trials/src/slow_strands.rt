@@ -3,7 +3,9 @@ ghost use Rattle.std.specs.Prelude.{All};
 ghost use Rattle.up_model.specs.Packet.{IsLegal};
 ghost use Rattle.up_model.specs.WellFormed.{IsWellFormed};
 
+use crate::lane_flags::come_to;
 use crate::left::{Left, sums};
+use crate::plain_copies::is_same;
 use crate::sent::Sent;
 use crate::split::Split;
 use std::alloc::Global;
@@ -37,6 +39,33 @@ impl Carried<'_> {
     }
 }
 
+/// What the pipe at a place puts out for what it takes.
+fn put_of(
+    rt: &impl Abort,
+    alloc: Global,
+    split: &Split,
+    carried: &Carried<'_>,
+    place: usize,
+    taken: &PacketList,
+) -> PacketList
+    requires well_formed { IsWellFormed split.now.graph.pipes }
+    requires legal { All IsLegal taken.now }
+    ensures legal { All IsLegal result }
+{
+    let (graph, whole) = (&split.graph, carried.is_whole());
+    assert!(rt; place < graph.pipes.len());
+    let kind = &graph.pipes.at(place).kind;
+    if kind.is_sink() {
+        return PacketList::new(alloc);
+    }
+    if kind.is_source() {
+        let put = plain_source(alloc, graph, place, carried.bytes, whole);
+        return put.expect(rt, "no memory");
+    }
+    let put = plain_out(alloc, graph, place, taken, whole);
+    put.expect(rt, "no memory")
+}
+
 /// What the pipe at a place puts out, where its source is reached in fewer steps than these.
 fn flow_within(
     rt: &impl Abort,
@@ -49,31 +78,19 @@ fn flow_within(
     requires well_formed { IsWellFormed split.now.graph.pipes }
     ensures legal { All IsLegal result }
 {
-    let graph = &split.graph;
-    if steps == 0 || graph.pipes.len() <= place || graph.pipes.at(place).kind.is_sink() {
+    if steps == 0 || split.graph.pipes.len() <= place {
         return PacketList::new(alloc);
     }
-    if graph.pipes.at(place).kind.is_source() {
-        let put = plain_source(alloc, graph, place, carried.bytes, carried.is_whole());
-        return put.expect(rt, "no memory");
-    }
-    let whole = carried.is_whole();
-    match graph.pipes.at(place).input {
-        None => {
-            let put = plain_out(alloc, graph, place, &PacketList::new(alloc), whole);
-            put.expect(rt, "no memory")
-        }
-        Some(input) => {
-            let input = usize::from(input);
-            let taken = flow_within(rt, alloc, split, carried, steps - 1, input);
-            let put = plain_out(alloc, graph, place, &taken, whole);
-            put.expect(rt, "no memory")
-        }
-    }
+    let sent = match split.graph.pipes.at(place).input {
+        None => PacketList::new(alloc),
+        Some(input) => flow_within(rt, alloc, split, carried, steps - 1, usize::from(input)),
+    };
+    let taken = come_to(rt, alloc, split, place, sent);
+    put_of(rt, alloc, split, carried, place, &taken)
 }
 
-/// What the pipe at a place puts out.
-fn put_at(
+/// What the input of the pipe at a place puts out.
+fn sent_to(
     rt: &impl Abort,
     alloc: Global,
     split: &Split,
@@ -83,24 +100,11 @@ fn put_at(
     requires well_formed { IsWellFormed split.now.graph.pipes }
     ensures legal { All IsLegal result }
 {
-    flow_within(rt, alloc, split, carried, split.graph.pipes.len(), place)
-}
-
-/// What the pipe at a place takes.
-fn taken_at(
-    rt: &impl Abort,
-    alloc: Global,
-    split: &Split,
-    carried: &Carried<'_>,
-    place: usize,
-) -> PacketList
-    requires well_formed { IsWellFormed split.now.graph.pipes }
-    ensures legal { All IsLegal result }
-{
-    assert!(rt; place < split.graph.pipes.len());
+    let count = split.graph.pipes.len();
+    assert!(rt; place < count);
     match split.graph.pipes.at(place).input {
         None => PacketList::new(alloc),
-        Some(input) => put_at(rt, alloc, split, carried, usize::from(input)),
+        Some(input) => flow_within(rt, alloc, split, carried, count, usize::from(input)),
     }
 }
 
@@ -122,19 +126,20 @@ fn seen(caught: CatchSet, tally: Tally) -> Tally {
     }
 }
 
-/// What the pipe at a place is to count: a source and a sink drop and cut nothing, any other pipe all that it doesn't put
-/// out.
-fn sums_at(
+/// What the pipe at a place is to count of what it takes: a source and a sink drop and cut
+/// nothing, any other pipe all that it doesn't put out.
+fn sums_of(
     rt: &impl Abort,
     alloc: Global,
     split: &Split,
     carried: &Carried<'_>,
     place: usize,
+    taken: &PacketList,
 ) -> Tally
     requires well_formed { IsWellFormed split.now.graph.pipes }
+    requires legal { All IsLegal taken.now }
 {
-    let taken = taken_at(rt, alloc, split, carried, place);
-    let put = put_at(rt, alloc, split, carried, place);
+    let put = put_of(rt, alloc, split, carried, place, taken);
     let (in_count, out_count) = (taken.len() as u64, put.len() as u64);
     if split.is_source(place) {
         return sums(0, out_count, 0, 0);
@@ -143,7 +148,7 @@ fn sums_at(
         return sums(in_count, 0, 0, 0);
     }
     let dropped = in_count.saturating_sub(out_count);
-    let cut = bytes_in(&taken).saturating_sub(bytes_in(&put));
+    let cut = bytes_in(taken).saturating_sub(bytes_in(&put));
     assert!(rt; place < split.graph.pipes.len());
     let caught = split.graph.pipes.at(place).caught;
     seen(caught, sums(in_count, out_count, dropped, cut))
@@ -160,15 +165,17 @@ fn given(rt: &impl Abort, alloc: Global, split: &Split, bytes: &[u8]) -> GivenBy
     list
 }
 
-/// The bytes that the pipe at a place is to write: none but a sink's.
-fn written_at(
+/// The bytes that the pipe at a place is to write of what it takes: none but a sink's.
+fn written_of(
     rt: &impl Abort,
     alloc: Global,
     split: &Split,
     carried: &Carried<'_>,
     place: usize,
+    taken: &PacketList,
 ) -> Bytes
     requires well_formed { IsWellFormed split.now.graph.pipes }
+    requires legal { All IsLegal taken.now }
 {
     assert!(rt; place < split.graph.pipes.len());
     if !split.graph.pipes.at(place).kind.is_sink() {
@@ -180,8 +187,7 @@ fn written_at(
         let bytes = plain_output(alloc, &split.graph, &given, place);
         return bytes.expect(rt, "no memory");
     }
-    let taken = taken_at(rt, alloc, split, carried, place);
-    let bytes = plain_sink(alloc, &split.graph, place, &taken);
+    let bytes = plain_sink(alloc, &split.graph, place, taken);
     bytes.expect(rt, "no memory")
 }
 
@@ -196,10 +202,10 @@ fn outcome_at(split: &Split, carried: &Carried<'_>, place: usize) -> Outcome {
     Outcome::Broken
 }
 
-/// What a pipe is to come to.
+/// What a pipe is to come to, and what its input is to put out.
 #[derive(Drop)]
 pub(crate) struct Wanted {
-    pub taken: PacketList,
+    pub sent: PacketList,
     pub written: Bytes,
     pub sums: Tally,
     pub outcome: Outcome,
@@ -208,7 +214,8 @@ pub(crate) struct Wanted {
 /// What all pipes of a graph are to come to, in the order of the file.
 pub(crate) type WantedList = ItemList<Wanted>;
 
-/// What the pipe at a place is to come to where its source carried this.
+/// What the pipe at a place is to come to where its source carried this. The flags that packets
+/// are given in lanes change no byte and no count.
 pub(crate) fn wanted_at(
     rt: &impl Abort,
     alloc: Global,
@@ -218,11 +225,12 @@ pub(crate) fn wanted_at(
 ) -> Wanted
     requires well_formed { IsWellFormed split.now.graph.pipes }
 {
+    let sent = sent_to(rt, alloc, split, carried, place);
     Wanted {
-        taken: taken_at(rt, alloc, split, carried, place),
-        written: written_at(rt, alloc, split, carried, place),
-        sums: sums_at(rt, alloc, split, carried, place),
+        written: written_of(rt, alloc, split, carried, place, &sent),
+        sums: sums_of(rt, alloc, split, carried, place, &sent),
         outcome: outcome_at(split, carried, place),
+        sent,
     }
 }
 
@@ -232,8 +240,9 @@ pub(crate) fn wanted_of(
     alloc: Global,
     split: &Split,
     carried: &Carried<'_>,
-) -> WantedList {
-    assert!(rt; split.graph.is_well_formed());
+) -> WantedList
+    requires well_formed { IsWellFormed split.now.graph.pipes }
+{
     let mut list = WantedList::new(alloc);
     for place in 0..split.graph.pipes.len() {
         let wanted = wanted_at(rt, alloc, split, carried, place);
@@ -269,7 +278,7 @@ pub(crate) fn assert_left(
     assert_eq!(rt; left.sinks.len(), sinks);
 }
 
-/// What went out for the lane of a head is what it is to take, and then this end.
+/// What went out for the lane of a head is what its input is to put out, and then this end.
 pub(crate) fn assert_lane(
     rt: &impl Abort,
     list: &WantedList,
@@ -279,22 +288,23 @@ pub(crate) fn assert_lane(
 ) {
     let place = usize::from(head);
     assert!(rt; place < list.len());
-    let taken = &list.at(place).taken;
+    let wanted = &list.at(place).sent;
     let mut count: usize = 0;
     for one in sent {
         if one.lane == head {
             match &one.item {
-                Item::Packet(bytes) => {
-                    assert!(rt; count < taken.len());
-                    assert_eq!(rt; bytes.as_slice(), taken.at(count).bytes.as_slice());
+                Item::Packet(packet) => {
+                    assert!(rt; count < wanted.len());
+                    let other = wanted.at(count);
+                    assert!(rt; is_same(packet, other), "{packet:?} is not {other:?}");
                 }
                 Item::End(kind) => {
-                    assert_eq!(rt; count, taken.len());
+                    assert_eq!(rt; count, wanted.len());
                     assert_eq!(rt; *kind, end);
                 }
             }
             count = count.saturating_add(1);
         }
     }
-    assert_eq!(rt; count, taken.len().saturating_add(1));
+    assert_eq!(rt; count, wanted.len().saturating_add(1));
 }

@@ -3,6 +3,7 @@ ghost use Rattle.std.specs.Prelude.{◌≡◌, ◌+◌, [], ◌∷◌, length, i
 ghost use Rattle.std.specs.List.{Contains, filter};
 ghost use Rattle.up_model.specs.Inputs.{ends_at_source, passes_at};
 ghost use Rattle.up_model.specs.Plans.{ends_at_sink, heads, strand_of};
+ghost use Rattle.up_model.specs.WellFormed.{IsWellFormed};
 ghost use Rattle.up_outside.specs.Memory.MemSink.{sink_state};
 ghost use Rattle.up_outside.specs.Memory.MemSource.{source_state};
 ghost use Rattle.up_plan.specs.Plan.{plan_of};
@@ -74,7 +75,9 @@ pub(crate) struct Split {
 
 impl Split {
     /// The graph of these pipes, which is to be well formed.
-    pub fn of(rt: &impl Abort, alloc: Global, rows: &[Row]) -> Result<Split, Fail> {
+    pub fn of(rt: &impl Abort, alloc: Global, rows: &[Row]) -> Result<Split, Fail>
+        ensures { IfOk result (λ split. IsWellFormed split.graph.pipes) }
+    {
         let graph = graph_of(alloc, rows)?;
         assert!(rt; graph.is_well_formed(), "{:?}", graph.fault());
         let plan = make_plan(alloc, &graph)?;
@@ -91,6 +94,17 @@ impl Split {
             }
         }
         panic!(rt; "no source")
+    }
+
+    /// Whether a strand begins at the place.
+    pub fn is_head(&self, place: usize) -> bool {
+        let strands = &self.plan.strands;
+        for i in 0..strands.len() {
+            if usize::from(strands.at(i).head) == place {
+                return true;
+            }
+        }
+        false
     }
 
     /// The pipes of the strand of a head.
@@ -132,12 +146,12 @@ impl Split {
         head: u16,
         depot: &mut MemDepot,
     ) -> Result<Tried<P>, NoRoom<StrandParts<MemSource, MemSink>>>
+        requires well_formed { IsWellFormed self.now.graph.pipes }
         ensures of { IfOk result (IsOfGraph P.plain self.now.graph.pipes head) }
         ensures stands { IfOk result (StandsForSome P.plain source_state sink_state) }
         ensures family { IfOk result
             (λ strand. (f : P.Store.Family) → StrandFits strand P.fits f) }
     {
-        assert!(rt; self.graph.is_well_formed());
         let own = self.own_pipes(rt, head);
         let source = self.source_at(rt, head, depot);
         let sinks = self.sinks_at(rt, alloc, own, depot);
@@ -152,6 +166,7 @@ impl Split {
         head: u16,
         depot: &mut MemDepot,
     ) -> Tried<P>
+        requires well_formed { IsWellFormed self.now.graph.pipes }
         ensures of { IsOfGraph P.plain self.now.graph.pipes head result }
         ensures work { (f : P.Store.Family) → IsAtWork P.plain P.fits f result }
     {

@@ -115,7 +115,7 @@ fn a_write_that_fails_leaves_all_but_its_sink(rt: HostRuntime) -> Result<(), Fai
     let mut sent = Vec::new(alloc);
     let left = run_rows::<VecPacket>(&rt, alloc, &fan(), &mut depot, &mut sent, s)?;
     assert!(rt; sent.len() == 4);
-    assert_eq!(rt; sent[3].item, Item::End(EndKind::Whole));
+    assert!(rt; sent[3].is_end(EndKind::Whole));
     let mut outcomes = [Outcome::Whole; 5];
     outcomes[2] = Outcome::WriteFault;
     left.assert_ends(&rt, &[b"abc", b"cf"], &outcomes);

@@ -4,7 +4,7 @@ use crate::left::sums;
 use crate::row::{CAPTURE, Does, Row, pipe_row};
 use std::alloc::Global;
 use std::test::Fail;
-use up_model::Outcome;
+use up_model::{MAX_BLOCK, MAX_LIMIT, MAX_PACKET, MAX_QUEUE, Outcome};
 use up_outside::MemDepot;
 
 const WORKERS: [&str; 16] = [
@@ -72,5 +72,56 @@ fn a_dup_feeds_254_sinks_of_16_workers(rt: HostRuntime) -> Result<(), Fail> {
         let path = format!(in alloc; "pipe{}", place)?;
         assert_held(&rt, &depot, &[(&path, b"abcdefg")]);
     }
+    Ok(())
+}
+
+/// A pipe with the longest lane, where it has one.
+fn long_row(does: Does, worker: &'static str, input: Option<u16>) -> Row {
+    Row {
+        queue: MAX_QUEUE,
+        ..pipe_row(does, worker, input)
+    }
+}
+
+/// A source, a `skip`, and a sink, on workers of their own.
+fn through(block: u32, skipped: u32) -> [Row; 3] {
+    let capture = Does::Source {
+        block,
+        limit: MAX_LIMIT,
+    };
+    [
+        long_row(capture, "w1", None),
+        long_row(Does::Skip(skipped), "w2", Some(0)),
+        long_row(Does::Sink, "w3", Some(1)),
+    ]
+}
+
+#[test]
+fn the_greatest_packets_go_through_the_longest_lanes(rt: HostRuntime) -> Result<(), Fail> {
+    let alloc = rt.alloc();
+    let mut bytes = vec![in alloc; 7; 1_048_579]?;
+    bytes[1_048_575] = 2;
+    let mut depot = MemDepot::new(alloc);
+    depot.hold("pipe0", &bytes)?;
+    let rows = through(MAX_BLOCK, MAX_PACKET - 1);
+    let ran = run_pipes(&rt, alloc, &rows, &mut depot)?;
+    ran.assert_ends(&rt, &[Outcome::Whole; 3]);
+    let cut = sums(2, 1, 1, 1_048_578);
+    ran.assert_sums(&rt, &[sums(0, 2, 0, 0), cut, sums(1, 0, 0, 0)]);
+    assert_held(&rt, &depot, &[("pipe2", &[2])]);
+    Ok(())
+}
+
+#[test]
+fn five_thousand_packets_go_through_lanes_of_4096_items(rt: HostRuntime) -> Result<(), Fail> {
+    let alloc = rt.alloc();
+    let bytes = vec![in alloc; 7; 5_000]?;
+    let mut depot = MemDepot::new(alloc);
+    depot.hold("pipe0", &bytes)?;
+    let ran = run_pipes(&rt, alloc, &through(1, 0), &mut depot)?;
+    ran.assert_ends(&rt, &[Outcome::Whole; 3]);
+    let passed = sums(5_000, 5_000, 0, 0);
+    ran.assert_sums(&rt, &[sums(0, 5_000, 0, 0), passed, sums(5_000, 0, 0, 0)]);
+    assert_held(&rt, &depot, &[("pipe2", &bytes)]);
     Ok(())
 }
