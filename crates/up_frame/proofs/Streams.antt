@@ -1,5 +1,5 @@
 -- Bytes as frames: the whole ones come one by one, and no others do.
-use Rattle.std.proofs.Common.{◌≡◌, ℕ, zero, suc, ◌<◌, ◌≤◌, List, [], ◌∷◌, ◌++◌, length, All, Ok, Err, refl, sym, ap, ◌∙◌, arith}
+use Rattle.std.proofs.Common.{◌≡◌, ℕ, zero, suc, ◌<◌, ◌≤◌, List, [], ◌∷◌, ◌++◌, length, All, Ok, Err, refl, sym, ap, ◌∙◌, arith, ◌-◌, None}
 use Rattle.std.proofs.lemmas.List.Elements.{All-head, All-tail}
 use Rattle.up_base.specs.Number.{AreBytes}
 use Rattle.up_frame.proofs.Fields.{found, found_is}
@@ -7,7 +7,7 @@ use Rattle.up_frame.proofs.Packets.{packet_takes, packet_again}
 use Rattle.up_frame.proofs.Shorter.{packet_shrinks}
 use Rattle.up_frame.specs.Fronts.{Front, packet_at}
 use Rattle.up_frame.specs.Spelling.{frame_of, frames_of}
-use Rattle.up_frame.specs.Streams.{IsFramed, HasNoFrame, Stream, behind, stream_by, stream_within, stream_of}
+use Rattle.up_frame.specs.Streams.{IsFramed, HasNoFrame, Stream, behind, stream_by, stream_within, stream_of, rest_of_frames, broken_where, broken_at, place_of_some, cut_at}
 use Rattle.up_frame.specs.declared.layout.NotWhole.{NotWhole}
 use Rattle.up_frame.specs.declared.layout.NotWhole.TheVariants.{Unfinished}
 use Rattle.up_model.specs.Packet.{Flow, IsLegal}
@@ -108,3 +108,10 @@ only_one (packet ∷ flow) bytes rest below framed none =
     let frame = packet_takes bytes (packet, after) below read in
     ap stream_of framed.1.1 ∙ one_by_one packet after framed.0
     ∙ ap (behind packet) (only_one flow after rest frame.takes.below framed.1.2 none)
+
+-- where nothing is left, nothing is broken or unfinished
+pub neither : (bytes : List ℕ) → rest_of_frames bytes ≡ [] → (broken_at bytes ≡ None) × (cut_at bytes ≡ None)
+neither bytes nothing = (
+  ap (λ (r : List ℕ). broken_where (length bytes - length r) (packet_at r)) nothing ∙ ap (broken_where (length bytes - 0)) nothing_at_end,
+  ap (λ (r : List ℕ). place_of_some (length bytes - length r) r) nothing,
+)

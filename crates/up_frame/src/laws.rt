@@ -1,5 +1,5 @@
 //! Laws of frames and of the bytes that are made of them.
-ghost use Rattle.std.specs.Prelude.{◌≡◌, ◌∷◌, ◌++◌, List, ℕ, [], Some, Ok, All};
+ghost use Rattle.std.specs.Prelude.{◌≡◌, ◌∷◌, ◌++◌, List, ℕ, [], None, Some, Ok, All};
 ghost use Rattle.up_base.specs.Number.{AreBytes};
 ghost use Rattle.up_frame.specs.Fronts.{packet_at};
 ghost use Rattle.up_frame.specs.Spelling.{frame_of, frames_of};
@@ -7,6 +7,7 @@ ghost use Rattle.up_frame.specs.Streams.{
   IsFramed,
   HasNoFrame,
   broken_at,
+  cut_at,
   whole_frames,
   rest_of_frames,
 };
@@ -30,7 +31,7 @@ pub fn no_frame_begins_another()
 {}
 
 /// A frame before other bytes is the first of the whole frames, and then come those of the other
-/// bytes.
+/// bytes. Frames alone are neither broken nor unfinished.
 pub fn whole_frames_come_one_by_one()
     ensures frames { (packet : PlainPacket) (bytes : List ℕ) → IsLegal packet
         → whole_frames (frame_of packet ++ bytes) ≡ packet ∷ whole_frames bytes }
@@ -38,6 +39,8 @@ pub fn whole_frames_come_one_by_one()
         → rest_of_frames (frame_of packet ++ bytes) ≡ rest_of_frames bytes }
     ensures all { (flow : Flow) → All IsLegal flow
         → (whole_frames (frames_of flow) ≡ flow) × (rest_of_frames (frames_of flow) ≡ []) }
+    ensures neither { (flow : Flow) → All IsLegal flow
+        → (broken_at (frames_of flow) ≡ None) × (cut_at (frames_of flow) ≡ None) }
 {}
 
 /// Bytes are their whole frames and a rest at whose front no frame stands, and they are so in no

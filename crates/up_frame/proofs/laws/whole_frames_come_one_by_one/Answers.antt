@@ -1,5 +1,6 @@
 use Rattle.std.proofs.Common.{ap}
-use Rattle.up_frame.proofs.Streams.{one_by_one, all_back}
+use Rattle.up_frame.proofs.Streams.{one_by_one, all_back, neither}
+use Rattle.up_frame.specs.Spelling.{frames_of}
 use Rattle.up_frame.specs.Streams.{Stream}
 use Rattle.up_frame.proofs.laws.whole_frames_come_one_by_one.Goals as goal
 
@@ -13,3 +14,6 @@ pub returns-clause-all : goal.returns-clause-all
 returns-clause-all c flow legal =
     let back = all_back flow legal in
     (ap (λ (s : Stream). s.flow) back, ap (λ (s : Stream). s.rest) back)
+
+pub returns-clause-neither : goal.returns-clause-neither
+returns-clause-neither c flow legal = neither (frames_of flow) (ap (λ (s : Stream). s.rest) (all_back flow legal))
