@@ -49,7 +49,10 @@ fn flagged_flow(rt: &impl Abort, alloc: Global, flow: &PacketList) -> PacketList
     let mut came = PacketList::new(alloc);
     for k in 0..flow.len() {
         let packet = flagged(rt, alloc, flow.at(k), k);
-        assert!(rt; came.push(packet).is_ok());
+        match came.push(packet) {
+            Ok(()) => {}
+            Err(_) => panic!(rt; "no memory"),
+        }
     }
     came
 }
