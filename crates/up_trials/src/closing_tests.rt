@@ -88,5 +88,10 @@ fn what_was_opened_before_a_refused_open_is_closed_in_that_order(
     run_branches(&rt, alloc, Some((source, "pipe3")), &[])?;
     run_branches(&rt, alloc, Some((source, "pipe4")), &["pipe3"])?;
     run_branches(&rt, alloc, Some((sink, "pipe0")), &["pipe3", "pipe4"])?;
-    run_branches(&rt, alloc, Some((sink, "pipe2")), &["pipe3", "pipe4", "pipe0"])
+    run_branches(
+        &rt,
+        alloc,
+        Some((sink, "pipe2")),
+        &["pipe3", "pipe4", "pipe0"],
+    )
 }

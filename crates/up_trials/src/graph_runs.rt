@@ -20,12 +20,7 @@ pub(crate) struct Ran {
 }
 
 /// Runs a graph over a depot, for which there is memory.
-pub(crate) fn run_graph(
-    rt: &impl Abort,
-    alloc: Global,
-    split: &Split,
-    depot: &mut MemDepot,
-) -> Ran
+pub(crate) fn run_graph(rt: &impl Abort, alloc: Global, split: &Split, depot: &mut MemDepot) -> Ran
     requires well_formed { IsWellFormed split.now.graph.pipes }
 {
     let s = &mut VecStore::new(alloc);

@@ -25,12 +25,7 @@ fn add_flag(rt: &impl Abort, packet: &mut PlainPacket, name: &str)
 
 /// The packet at a place of a lane's flow, counted from 0, as it comes out of the lane: of every
 /// two the first has the flags `key` and `pts`.
-pub(crate) fn flagged(
-    rt: &impl Abort,
-    alloc: Global,
-    packet: &PlainPacket,
-    k: usize,
-) -> PlainPacket
+pub(crate) fn flagged(rt: &impl Abort, alloc: Global, packet: &PlainPacket, k: usize) -> PlainPacket
     ensures { IsLegal packet.now → IsLegal result }
 {
     let mut copy = packet.copy(alloc).expect(rt, "no memory");

@@ -39,9 +39,7 @@ fn items_of(rt: &impl Abort, alloc: Global, sent: &[Sent], lane: u16) -> Vec<Ite
     for one in sent {
         if one.lane == lane {
             let item = match &one.item {
-                Item::Packet(packet) => {
-                    Item::Packet(flagged(rt, alloc, packet, items.len()))
-                }
+                Item::Packet(packet) => { Item::Packet(flagged(rt, alloc, packet, items.len())) }
                 Item::End(kind) => Item::End(*kind),
             };
             assert!(rt; items.push(item).is_ok());
