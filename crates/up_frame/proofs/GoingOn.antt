@@ -175,12 +175,13 @@ whole judged bytes all long on =
     let behind = drop judged.at bytes in
     let enough : judged.size ≤ length behind = omega (arith, length-drop judged.at bytes) in
     let place : drop judged.size behind ≡ drop (judged.at + judged.size) bytes = drop-drop judged.size judged.at bytes in
-    let packet = packet_of (on.front ++ []) (take judged.size behind) in
-    (packet,
-    alone judged bytes on
-    ∙ ap (λ (n : ℕ). goes_on on.front n judged.size (name_or_none judged.before) behind) all
-    ∙ body_whole on.front judged.size (name_or_none judged.before) behind enough
-    ∙ ap (λ (rest : List ℕ). found (packet, rest)) place)
+    let packet = packet_of (on.front ++ []) (take judged.size behind) in (
+      packet,
+      alone judged bytes on
+          ∙ ap (λ (n : ℕ). goes_on on.front n judged.size (name_or_none judged.before) behind) all
+          ∙ body_whole on.front judged.size (name_or_none judged.before) behind enough
+          ∙ ap (λ (rest : List ℕ). found (packet, rest)) place,
+    )
 
 -- the bytes end before the frame does
 pub short : (judged : Judged) (bytes : List ℕ) → judged.left ≡ 0 → length bytes < judged.at + judged.size → judged.at ≤ length bytes

@@ -1,8 +1,8 @@
 -- Bytes that are fed piece by piece, and their rest.
-use Rattle.std.proofs.Common.{◌≡◌, ℕ, ◌+◌, ◌-◌, ◌<◌, ◌≤◌, List, [], ◌∷◌, ◌++◌, length, take, drop, Option, Some, None, Ok, Err, refl, sym, ap, subst, ◌∙◌, arith}
-use Rattle.std.proofs.lemmas.List.{length-append, length-drop, drop-drop}
+use Rattle.std.proofs.Common.{◌≡◌, ℕ, ◌+◌, ◌-◌, ◌<◌, List, [], ◌∷◌, ◌++◌, length, drop, Option, Some, None, Ok, Err, refl, sym, ap, subst, ◌∙◌, arith}
+use Rattle.std.proofs.lemmas.List.{drop-drop}
 use Rattle.up_frame.proofs.GoingOn.{grows}
-use Rattle.up_frame.proofs.MoreBytes.{grown, is_broken, stays_broken}
+use Rattle.up_frame.proofs.MoreBytes.{grown, is_broken}
 use Rattle.up_frame.proofs.Streams.{first_is, none_is}
 use Rattle.up_frame.specs.Fronts.{Front, packet_at}
 use Rattle.up_frame.specs.Judging.{IsJudged, IsRest, EndsAt}

@@ -21,4 +21,6 @@ pub use refusals::{BadFrame, FeedRefused};
 pub use writing::write_frame;
 
 #[cfg(test)]
+mod scanner_tests;
+#[cfg(test)]
 mod tests;

@@ -1,9 +1,8 @@
-use Rattle.std.proofs.Common.{◌≡◌, ◌<◌, ◌++◌, List, ℕ, drop, Result, Ok, Err, refl, sym, ap, ◌∙◌, Some, arith}
+use Rattle.std.proofs.Common.{◌<◌, drop, refl, sym, ap, ◌∙◌, Some, arith}
 use Rattle.std.proofs.lemmas.List.Elements.{All-from_get_or}
 use Rattle.std.proofs.lemmas.Result.{err_from_is_err_and}
 use Rattle.up_frame.proofs.GoingOn.{one_more, none_more, fewer, from_place}
 use Rattle.up_frame.specs.Fronts.{attribute_at}
-use Rattle.up_frame.specs.Judging.{name_or_none}
 use Rattle.up_frame.proofs.judging.next_attribute.Goals as goal
 
 pub returns-in_err-name-clause-front : goal.returns-in_err-name-clause-front
