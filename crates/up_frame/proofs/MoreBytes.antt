@@ -43,7 +43,7 @@ rest_within (suc n) bytes = next (λ rest. rest_within n rest) (packet_at bytes)
         omega (arith, fewer, rest)
     next others (Err refused) e = omega arith
 
-is_broken : (place at : ℕ) (front : Front PlainPacket) → broken_where place front ≡ Some at → (front ≡ Err Broken) × (place ≡ at)
+pub is_broken : (place at : ℕ) (front : Front PlainPacket) → broken_where place front ≡ Some at → (front ≡ Err Broken) × (place ≡ at)
 is_broken place at (Ok x) e = absurd cc
 is_broken place at (Err Broken) e = (refl, cc)
 is_broken place at (Err Unfinished) e = absurd cc

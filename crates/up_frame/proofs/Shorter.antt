@@ -16,7 +16,7 @@ use Rattle.up_model.specs.declared.limits.TheConstants.{MAX_ATTRS, MAX_PACKET}
 use Rattle.up_model.specs.declared.plain_packet.PlainPacket.{PlainPacket}
 
 -- what is found leaves no more bytes than there were
-abbrev Shrinks : {A : Type 0} → (List ℕ → Front A) → Type 0
+abbrev pub Shrinks : {A : Type 0} → (List ℕ → Front A) → Type 0
 Shrinks {A} front = (bytes : List ℕ) (x : A × List ℕ) → front bytes ≡ Ok x → length x.1 ≤ length bytes
 
 found_shrinks : {A : Type 0} (x : A) → Shrinks (λ rest. found (x, rest))
@@ -41,7 +41,7 @@ field_leaves size rule bytes x e =
 field_shrinks : (size : ℕ) (rule : List ℕ → Bool) → Shrinks (field size rule)
 field_shrinks size rule bytes x e = let left = field_leaves size rule bytes x e in omega (arith, left)
 
-number_leaves : (size : ℕ) (rule : ℕ → Bool) (bytes : List ℕ) (x : ℕ × List ℕ) → number_at size rule bytes ≡ Ok x
+pub number_leaves : (size : ℕ) (rule : ℕ → Bool) (bytes : List ℕ) (x : ℕ × List ℕ) → number_at size rule bytes ≡ Ok x
     → length x.1 + size ≡ length bytes
 number_leaves size rule bytes x e =
     let a = bind_ok (field size (λ digits. rule (big_endian digits)) bytes) (λ f. found (big_endian f.0, f.1)) x e in
@@ -65,7 +65,7 @@ value_shrinks type_ =
     (λ size. bind_shrinks (field size (is_value_of type_)) (λ value rest. found (value_of type_ value, rest))
     (field_shrinks size (is_value_of type_)) (λ value. found_shrinks (value_of type_ value)))
 
-attribute_shrinks : (before : List ℕ) → Shrinks (attribute_at before)
+pub attribute_shrinks : (before : List ℕ) → Shrinks (attribute_at before)
 unfolding attribute_at
 attribute_shrinks before =
     bind_shrinks (number_at 1 (is_within 1 NAME_SIZE)) (λ size rest. field size (is_name_behind before) rest >>= λ name. type_at name.1 >>= λ type_. value_at type_.0 type_.1 >>= λ value. found ((name.0, value.0), value.1))

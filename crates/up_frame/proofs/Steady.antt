@@ -21,7 +21,7 @@ Stays more (Ok x) later = later ≡ Ok (x.0, x.1 ++ more)
 Stays more (Err Broken) later = later ≡ Err Broken
 Stays more (Err Unfinished) later = Unit {0}
 
-abbrev Steady : {A : Type 0} → (List ℕ → Front A) → Type 0
+abbrev pub Steady : {A : Type 0} → (List ℕ → Front A) → Type 0
 Steady front = (bytes more : List ℕ) → Stays more (front bytes) (front (bytes ++ more))
 
 found_steady : {A : Type 0} (x : A) → Steady (λ rest. found (x, rest))
@@ -61,7 +61,7 @@ field_steady size rule bytes more = by_length (ltb (length bytes) size) refl
         (sym (field_later size rule bytes more (ltb-false _ _ e)))
         (judged (rule (take size bytes)) (take size bytes) (drop size bytes) more)
 
-number_steady : (size : ℕ) (rule : ℕ → Bool) → Steady (number_at size rule)
+pub number_steady : (size : ℕ) (rule : ℕ → Bool) → Steady (number_at size rule)
 number_steady size rule =
     bind_steady (field size (λ digits. rule (big_endian digits))) (λ digits rest. found (big_endian digits, rest))
     (field_steady size (λ digits. rule (big_endian digits))) (λ digits. found_steady (big_endian digits))
@@ -82,7 +82,7 @@ value_steady type_ =
     (λ size. bind_steady (field size (is_value_of type_)) (λ value rest. found (value_of type_ value, rest))
     (field_steady size (is_value_of type_)) (λ value. found_steady (value_of type_ value)))
 
-attribute_steady : (before : List ℕ) → Steady (attribute_at before)
+pub attribute_steady : (before : List ℕ) → Steady (attribute_at before)
 unfolding attribute_at
 attribute_steady before =
     bind_steady (number_at 1 (is_within 1 NAME_SIZE)) (λ size rest. field size (is_name_behind before) rest >>= λ name. type_at name.1 >>= λ type_. value_at type_.0 type_.1 >>= λ value. found ((name.0, value.0), value.1))

@@ -1,5 +1,7 @@
 pub mod Fronts
+pub mod Judging
 pub mod Reading
+pub mod Scanners
 pub mod Spelling
 pub mod Streams
 pub mod Types

@@ -39,7 +39,7 @@ fn cut(bytes: &[u8], size: usize) -> Result<(&[u8], &[u8]), NotWhole>
 }
 
 /// What is behind a byte that is this number.
-fn behind_byte(bytes: &[u8], number: u8) -> Result<&[u8], NotWhole>
+pub(crate) fn behind_byte(bytes: &[u8], number: u8) -> Result<&[u8], NotWhole>
     ensures { Gives (λ rest. (number, rest.now)) result
         (number_at 1 (λ byte. byte == number) bytes.now) }
 {
@@ -72,7 +72,7 @@ fn name_size_at(bytes: &[u8]) -> Result<(usize, &[u8]), NotWhole>
 }
 
 /// How many attributes there are.
-fn count_at(bytes: &[u8]) -> Result<(u16, &[u8]), NotWhole>
+pub(crate) fn count_at(bytes: &[u8]) -> Result<(u16, &[u8]), NotWhole>
     ensures { Gives (λ x. (x.0, x.1.now)) result
         (number_at 2 (λ count. nat_le count MAX_ATTRS) bytes.now) }
 {
@@ -87,7 +87,7 @@ fn count_at(bytes: &[u8]) -> Result<(u16, &[u8]), NotWhole>
 }
 
 /// How many bytes the packet has.
-fn size_at(bytes: &[u8]) -> Result<(u32, &[u8]), NotWhole>
+pub(crate) fn size_at(bytes: &[u8]) -> Result<(u32, &[u8]), NotWhole>
     ensures { Gives (λ x. (x.0, x.1.now)) result
         (number_at 4 (λ size. nat_le size MAX_PACKET) bytes.now) }
 {
@@ -212,8 +212,9 @@ fn name_at<'a>(
     size: usize,
     before: &[u8],
 ) -> Result<(&'a [u8], &'a [u8]), NotWhole>
-    ensures { Gives (λ x. (x.0.now, x.1.now)) result
+    ensures front { Gives (λ x. (x.0.now, x.1.now)) result
         (field size (is_name_behind before.now) bytes.now) }
+    ensures name { IfOk result (λ x. is_name x.0.now ≡ true) }
 {
     if bytes.len() < size {
         return Err(NotWhole::Unfinished);
@@ -252,8 +253,13 @@ fn behind_value(bytes: &[u8], type_: ValueType) -> Result<&[u8], NotWhole>
 
 /// The name of an attribute behind another, and what is behind the attribute.
 #[tactic(auto, unfolding(crate::specs::Fronts::attribute_at))]
-fn attribute<'a>(bytes: &'a [u8], before: &[u8]) -> Result<(&'a [u8], &'a [u8]), NotWhole>
-    ensures { EndsNamed (λ x. x.0.now) (λ x. x.1.now) result (attribute_at before.now bytes.now) }
+pub(crate) fn attribute<'a>(
+    bytes: &'a [u8],
+    before: &[u8],
+) -> Result<(&'a [u8], &'a [u8]), NotWhole>
+    ensures front { EndsNamed (λ x. x.0.now) (λ x. x.1.now) result
+        (attribute_at before.now bytes.now) }
+    ensures name { IfOk result (λ x. is_name x.0.now ≡ true) }
 {
     let (size, rest) = name_size_at(bytes)?;
     let (name, rest) = name_at(rest, size, before)?;

@@ -12,7 +12,7 @@ use up_model::{MAX_ATTRS, MAX_PACKET, MAX_VALUE, ValueView, packets_stay_legal};
 use up_shape::{LocalPacket, VecPacket, VecStore};
 
 /// A packet of these bytes, without attributes.
-fn fresh(rt: &impl Abort, alloc: Global, bytes: &[u8]) -> VecPacket
+pub(crate) fn fresh(rt: &impl Abort, alloc: Global, bytes: &[u8]) -> VecPacket
     ensures { IsLegal (plain_of result) }
 {
     packets_stay_legal();
@@ -44,7 +44,7 @@ fn set_words(rt: &impl Abort, packet: &mut VecPacket, name: &str, text: &str)
     set_attr(rt, packet, name, ValueView::Words(text));
 }
 
-fn set_opaque(rt: &impl Abort, packet: &mut VecPacket, name: &str, bytes: &[u8])
+pub(crate) fn set_opaque(rt: &impl Abort, packet: &mut VecPacket, name: &str, bytes: &[u8])
     requires { IsLegal (plain_of packet.old) }
     ensures { IsLegal (plain_of packet.new) }
 {
@@ -121,7 +121,7 @@ fn values_of_each_type_stand_in_the_order_of_their_names(rt: HostRuntime) -> Res
 }
 
 /// The names of 64 attributes, in their order.
-const NAMES: [&str; 64] = [
+pub(crate) const NAMES: [&str; 64] = [
     "a0", "a1", "a2", "a3", "a4", "a5", "a6", "a7", "b0", "b1", "b2", "b3", "b4", "b5", "b6", "b7",
     "c0", "c1", "c2", "c3", "c4", "c5", "c6", "c7", "d0", "d1", "d2", "d3", "d4", "d5", "d6", "d7",
     "e0", "e1", "e2", "e3", "e4", "e5", "e6", "e7", "f0", "f1", "f2", "f3", "f4", "f5", "f6", "f7",
@@ -129,7 +129,7 @@ const NAMES: [&str; 64] = [
 ];
 
 /// Gives the packet void attributes of these names, the last one first.
-fn set_all(rt: &impl Abort, packet: &mut VecPacket, names: &[&str])
+pub(crate) fn set_all(rt: &impl Abort, packet: &mut VecPacket, names: &[&str])
     requires { IsLegal (plain_of packet.old) }
     ensures { IsLegal (plain_of packet.new) }
 {
@@ -181,7 +181,7 @@ fn assert_front(rt: &impl Abort, bytes: &[u8], wanted: Result<usize, NotWhole>) 
 }
 
 /// The packet `hi` with five attributes, one of each type.
-const EACH_TYPE: [u8; 60] = [
+pub(crate) const EACH_TYPE: [u8; 60] = [
     0x46, 1, 0, 5, 0, 0, 0, 2, 1, 0x61, 1, 0, 0, 0, 0, 1, 0x62, 2, 0, 0, 0, 1, 1, 1, 0x63, 3, 0, 0,
     0, 8, 1, 2, 3, 4, 5, 6, 7, 8, 1, 0x64, 4, 0, 0, 0, 2, 0xc3, 0xa9, 2, 0x64, 0x64, 5, 0, 0, 0, 1,
     255, 104, 105, 0x46, 9,

@@ -1,0 +1,15 @@
+//! How far a frame was judged.
+ghost use Rattle.std.specs.Prelude.{◌≤◌};
+
+use up_base::AttrName;
+
+/// How far a frame was judged that isn't whole yet: the place of what is next, how many attributes and
+/// bytes are to come, and the name that the next one follows.
+#[derive(Clone, Copy, Debug)]
+pub(crate) struct Judged {
+    pub at: usize,
+    pub left: u16,
+    pub size: u32,
+    pub before: Option<AttrName>,
+    ghost behind_head: { 8 ≤ at },
+}
