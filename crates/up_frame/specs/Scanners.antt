@@ -21,14 +21,14 @@ pub record StandsFor (scanner : FrameScanner) (bytes : List ℕ) : Type 0 where
   pub count : scanner.fed ≡ length bytes
   pub keeps : Keeps scanner.broken scanner.judged scanner.held.items bytes
 
--- the piece was added, unless there was no room; a broken frame is told by its place
+-- the piece was added, unless there was no room and nothing is broken; a broken frame is told by its place
 abbrev pub Feeds : FrameScanner → FrameScanner → List ℕ → Result (Unit {0}) FeedRefused → Type 0
 Feeds old new piece (Ok done) = (bytes : List ℕ) → StandsFor old bytes
     → StandsFor new (bytes ++ piece) × (broken_at (bytes ++ piece) ≡ None)
 Feeds old new piece (Err (refusals.BadFrame offset)) = (bytes : List ℕ) → StandsFor old bytes
     → StandsFor new (bytes ++ piece) × (broken_at (bytes ++ piece) ≡ Some offset)
 Feeds old new piece (Err refusals.NoMemory) = (bytes : List ℕ) → StandsFor old bytes
-    → StandsFor new bytes
+    → StandsFor new bytes × (broken_at bytes ≡ None)
 
 -- how many bytes were fed
 abbrev pub bytes_fed : FrameScanner → ℕ

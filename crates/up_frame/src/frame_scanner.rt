@@ -99,6 +99,8 @@ impl FrameScanner {
             NotWhole::Unfinished => Ok(()),
             NotWhole::Broken => {
                 let offset = self.fed - self.held.len() as u64;
+                self.judged = None;
+                self.held.clear();
                 self.broken = Some(offset);
                 Err(FeedRefused::BadFrame { offset })
             }

@@ -1,5 +1,5 @@
 // Made graphs, cut and ended at each point: all strands come to the slow meaning.
-ghost use Rattle.std.specs.Prelude.{IfOk};
+ghost use Rattle.std.specs.Prelude.{◌<◌, IfOk};
 ghost use Rattle.up_model.specs.WellFormed.{IsWellFormed};
 
 use crate::before_faults::read_before;
@@ -169,22 +169,48 @@ fn run_made(
     assert_lanes(rt, split, wanted, end, &sent);
 }
 
+/// Runs a graph over an input of these bytes alone, at each cut.
+fn run_end(rt: &impl Abort, alloc: Global, split: &Split, bytes: &[u8]) -> Result<(), Fail>
+    requires well_formed { IsWellFormed split.now.graph.pipes }
+{
+    let carried = Carried {
+        bytes,
+        ended: Outcome::Whole,
+    };
+    let wanted = wanted_of(rt, alloc, split, &carried);
+    for cut in CUTS {
+        let mut depot = depot_of(rt, alloc, split, cut, None, bytes)?;
+        run_made(rt, alloc, split, &wanted, EndKind::Whole, &mut depot);
+    }
+    Ok(())
+}
+
+/// Runs the graph of a number over each first part of its input, and over all of it.
+fn run_ends(rt: &impl Abort, alloc: Global, seed: u32) -> Result<(), Fail> {
+    let split = made(rt, alloc, seed, MAX_LIMIT)?;
+    let bytes = made_bytes(alloc, &mut Dice::new(seed))?;
+    let bytes = bytes.as_slice();
+    for count in 0..=bytes.len() {
+        run_end(rt, alloc, &split, &bytes[..count])?;
+    }
+    Ok(())
+}
+
 #[test]
 fn made_graphs_come_to_the_slow_meaning_however_reads_are_cut(rt: HostRuntime) -> Result<(), Fail> {
-    let alloc = rt.alloc();
-    for seed in 0..GRAPHS {
-        let split = made(&rt, alloc, seed, MAX_LIMIT)?;
-        let bytes = made_bytes(alloc, &mut Dice::new(seed))?;
-        let bytes = bytes.as_slice();
-        let carried = Carried {
-            bytes,
-            ended: Outcome::Whole,
-        };
-        let wanted = wanted_of(&rt, alloc, &split, &carried);
-        for cut in CUTS {
-            let mut depot = depot_of(&rt, alloc, &split, cut, None, bytes)?;
-            run_made(&rt, alloc, &split, &wanted, EndKind::Whole, &mut depot);
-        }
+    for half in 0..GRAPHS / 2 {
+        run_ends(&rt, rt.alloc(), half * 2)?;
+    }
+    Ok(())
+}
+
+/// The pipes of a graph of an odd number are turned.
+#[test]
+fn turned_graphs_come_to_the_slow_meaning_however_reads_are_cut(
+    rt: HostRuntime,
+) -> Result<(), Fail> {
+    for half in 0..GRAPHS / 2 {
+        run_ends(&rt, rt.alloc(), half * 2 + 1)?;
     }
     Ok(())
 }
@@ -302,41 +328,47 @@ fn run_limit(
     Ok(())
 }
 
-/// Runs the graph of a number with each limit up to the length of its input.
-fn run_limits(rt: &impl Abort, alloc: Global, seed: u32) -> Result<(), Fail> {
+/// Runs the graph of a number with each limit up to the length of its input, with each of these cuts.
+fn run_limits(rt: &impl Abort, alloc: Global, seed: u32, cuts: &[usize]) -> Result<(), Fail> {
     let bytes = made_bytes(alloc, &mut Dice::new(seed))?;
     let bytes = bytes.as_slice();
     for limit in 0..=bytes.len() as u64 {
-        run_limit(rt, alloc, seed, limit, &LONG_CUTS, bytes)?;
+        run_limit(rt, alloc, seed, limit, cuts, bytes)?;
+    }
+    Ok(())
+}
+
+/// Runs the graphs whose numbers leave this rest by two, with each limit and each of these cuts.
+fn run_all_limits(rt: &impl Abort, alloc: Global, rest: u32, cuts: &[usize]) -> Result<(), Fail>
+    requires { rest < 2 }
+{
+    for half in 0..GRAPHS / 2 {
+        run_limits(rt, alloc, half * 2 + rest, cuts)?;
     }
     Ok(())
 }
 
 #[test]
 fn made_graphs_come_to_what_is_settled_at_every_limit(rt: HostRuntime) -> Result<(), Fail> {
-    for half in 0..GRAPHS / 2 {
-        run_limits(&rt, rt.alloc(), half * 2)?;
-    }
-    Ok(())
+    run_all_limits(&rt, rt.alloc(), 0, &LONG_CUTS)
 }
 
 /// The pipes of a graph of an odd number are turned.
 #[test]
 fn turned_graphs_come_to_what_is_settled_at_every_limit(rt: HostRuntime) -> Result<(), Fail> {
-    for half in 0..GRAPHS / 2 {
-        run_limits(&rt, rt.alloc(), half * 2 + 1)?;
-    }
-    Ok(())
+    run_all_limits(&rt, rt.alloc(), 1, &LONG_CUTS)
 }
 
 #[test]
-fn made_graphs_come_to_what_is_settled_at_their_limit(rt: HostRuntime) -> Result<(), Fail> {
-    let alloc = rt.alloc();
-    for seed in 0..GRAPHS {
-        let dice = &mut Dice::new(seed);
-        let bytes = made_bytes(alloc, dice)?;
-        let limit = u64::from(dice.roll(62));
-        run_limit(&rt, alloc, seed, limit, &SHORT_CUTS, bytes.as_slice())?;
-    }
-    Ok(())
+fn made_graphs_come_to_what_is_settled_at_every_limit_by_small_reads(
+    rt: HostRuntime,
+) -> Result<(), Fail> {
+    run_all_limits(&rt, rt.alloc(), 0, &SHORT_CUTS)
+}
+
+#[test]
+fn turned_graphs_come_to_what_is_settled_at_every_limit_by_small_reads(
+    rt: HostRuntime,
+) -> Result<(), Fail> {
+    run_all_limits(&rt, rt.alloc(), 1, &SHORT_CUTS)
 }

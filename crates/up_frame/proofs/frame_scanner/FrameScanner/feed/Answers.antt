@@ -19,6 +19,17 @@ returns-in-Some-clause-fed c bytes stands =
       later,
     )
 
+pub returns-in-Err-clause-fed : goal.returns-in-Err-clause-fed
+returns-in-Err-clause-fed c bytes stands =
+    let old = c.args.self.now in
+    let open_ : Keeps None old.judged old.held.items bytes = subst (λ broken. Keeps broken old.judged old.held.items bytes) c.in-None.is stands.keeps in (
+      record {
+        count = c.in-Err.ensures.left ∙ stands.count;
+        keeps = rw (c.add.ensures.broken, c.add.ensures.judged, c.in-Err.ensures.unchanged) stands.keeps;
+      },
+      broken_rest bytes old.held.items Unfinished open_.0 open_.1.0,
+    )
+
 pub returns-in-Unfinished-clause-fed : goal.returns-in-Unfinished-clause-fed
 returns-in-Unfinished-clause-fed c bytes stands =
     let old = c.args.self.now in
