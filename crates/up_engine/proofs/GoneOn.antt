@@ -44,6 +44,8 @@ module _ {P S K : Type 0} (plain : P → PlainPacket) (reads : S → SourceState
 
     abbrev pub went : History
     went = record before {
+      source_now = step.source_now;
+      sinks_now = step.sinks_now;
       read = before.read ++ step.read;
       came = before.came ++ came;
       fed = before.fed ++ step.fed;

@@ -100,6 +100,8 @@ source_unread pipes head told start = record {
   told = refl;
   took = record { bytes_of = consumes_none start.left; sum = same_sum start.moved; place = refl };
   faults = uncounted start.faults;
+  once = omega arith;
+  left = refl;
   whole = λ is. absurd (cc);
 }
   where
@@ -121,5 +123,7 @@ sink_ungiven pipes well head source told place pipe =
       first = (bytes_due (begun pipes head source told) place pipe (doing None), refl);
       all = λ long works. sym due;
       faults = uncounted (told place).faults;
+      once = omega arith;
+      left = refl;
       same = same_itself (told place);
     }

@@ -18,6 +18,11 @@ pub record CountsWhere (failed : Bool) (before now : ℕ) : Type 0 where
   pub rose : failed ≡ true → Rose before now
   pub stays : failed ≡ false → now ≡ before
 
+-- the same, and the count rose by one at most
+pub record CountsOnce (failed : Bool) (before now : ℕ) : Type 0 where
+  pub counts : CountsWhere failed before now
+  pub once : now ≤ before + 1
+
 -- whether the call failed, which want of memory isn't
 abbrev pub is_failed : {T : Type 0} → Result T Refusal → Bool
 is_failed (Ok x) = false

@@ -21,21 +21,24 @@ use Rattle.up_model.specs.declared.kind.Kind.{Kind}
 use Rattle.up_model.specs.declared.kind.Kind.TheVariants as kinds
 use Rattle.up_model.specs.declared.pipe.Pipe.{Pipe}
 use Rattle.up_model.specs.declared.plain_packet.PlainPacket.{PlainPacket}
-use Rattle.up_outside.specs.Counts.{CountsWhere}
+use Rattle.up_outside.specs.Counts.{CountsOnce}
 use Rattle.up_outside.specs.States.{SinkState}
 use Rattle.up_strand.proofs.Writes.{receives_nothing}
 use Rattle.up_strand.specs.Making.{CanBegin, HasBegun, is_sink_in, node_place, own_in, seat_in, sinks_in, told_in}
-use Rattle.up_strand.specs.Nodes.{NodeStands, PartStands, Seat, has_ended, is_outlet}
+use Rattle.up_strand.specs.Nodes.{NodeStands, PartStands, Seat, has_ended, has_failed, is_outlet}
 use Rattle.up_strand.specs.Shapes.{IsShapeOf, input_in}
-use Rattle.up_strand.specs.Strands.{has_failed}
 use Rattle.up_strand.specs.Writing.{Receives}
 use Rattle.up_strand.specs.declared.node.Node.{Node}
 use Rattle.up_strand.specs.declared.node.Part.{Part}
+use Rattle.up_strand.specs.declared.node.Part.TheVariants.{Sink}
 use Rattle.up_strand.specs.declared.node.Takers.{Takers}
 use Rattle.up_strand.specs.declared.shape.Shape.{Shape}
 
-counts_none : (n : ℕ) → CountsWhere false n n
-counts_none n = record { later = omega arith; rose = λ wrong. absurd (cc); stays = λ is. refl }
+counts_none : (n : ℕ) → CountsOnce false n n
+counts_none n = record {
+  counts = record { later = omega arith; rose = λ wrong. absurd (cc); stays = λ is. refl };
+  once = omega arith;
+}
 
 raw_sink : (kind : Kind) → is_sink kind ≡ true → IsRawSink kind
 raw_sink (kinds.Source path form limit) is = absurd (cc)
@@ -48,7 +51,7 @@ raw_sink (kinds.DelAttr attr) is = absurd (cc)
 
 -- a sink that was given nothing
 pub sink_begins : {K : Type 0} (state : K → SinkState) (seat : Seat) (kind : Kind) (sink : K) → seat.kind ≡ Some kind → is_sink kind ≡ true → seat.start ≡ state sink
-    → MatchOption seat.kind ⊥ IsRawSink × Receives seat.start (state sink) true [] × CountsWhere false seat.start.faults (state sink).faults
+    → MatchOption seat.kind ⊥ IsRawSink × Receives seat.start (state sink) true [] × CountsOnce false seat.start.faults (state sink).faults
 sink_begins state seat kind sink is sinks start = rw (is, start) ((raw_sink kind sinks, receives_nothing (state sink) true, counts_none (state sink).faults))
 
 pub one_plus : (n : ℕ) → 1 + n ≡ suc n
@@ -191,15 +194,17 @@ module _ (pipes : List Pipe) (well : IsWellFormed pipes) (shape : Shape) (told :
         → node.out.packets ≡ []
         → ((seat : Seat) → IfSome seat.kind IsWithinBounds → PartStands plain state seat false part [] → NodeStands plain state seat node [] [])
         → PartStands plain state (seat_in pipes shape told i) false part []
+        → ((sink : K) (failed : Bool) → part ≡ Sink sink failed → (seat_in pipes shape told i).start ≡ state sink)
         → input ≡ input_in shape.inputs.items i → takers ≡ get_or shape.takers.items i None
         → is_outlet part ≡ nat_le shape.pipes i → has_ended part ≡ false → has_failed part ≡ false
         → HasBegun pipes shape plain state told i node
-    node_begins i input takers part node made empty stands part_stands input_is takers_is outlet going works =
+    node_begins i input takers part node made empty stands part_stands start input_is takers_is outlet going works =
         let part_is : node.part ≡ part = ap (λ (n : Node P K). n.part) made in
         record {
           input = ap (λ (n : Node P K). n.input) made ∙ input_is;
           takers = ap (λ (n : Node P K). n.takers) made ∙ takers_is;
           outlet = rw part_is outlet;
+          start = λ sink failed is. start sink failed (sym part_is ∙ is);
           failed = rw part_is works;
           empty = empty;
           sound = record { long = ap (λ (n : Node P K). n.short) made; going = rw part_is going };

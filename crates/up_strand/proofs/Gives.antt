@@ -1,5 +1,5 @@
 -- Nodes that are given a packet one after another.
-use Rattle.std.proofs.Common.{◌≡◌, ℕ, ◌+◌, ◌<◌, ◌≤◌, List, [], ◌∷◌, ◌++◌, length, set, get_or, Bool, true, false, Option, refl, sym, ◌∙◌, subst, append-nil, arith, inl, inr}
+use Rattle.std.proofs.Common.{◌≡◌, ℕ, ◌+◌, ◌<◌, ◌≤◌, List, [], ◌∷◌, ◌++◌, length, set, get_or, Bool, true, false, Option, refl, sym, ap, ◌∙◌, subst, append-nil, arith, inl, inr}
 use Rattle.std.specs.Prelude.{Result, Ok, Err, is_ok}
 use Rattle.std.specs.Result.{result_and}
 use Rattle.std.proofs.lemmas.List.{get_or_default}
@@ -9,7 +9,7 @@ use Rattle.up_model.specs.declared.plain_packet.PlainPacket.{PlainPacket}
 use Rattle.up_outside.specs.States.{SinkState}
 use Rattle.up_strand.proofs.Lists.{done_next, left_next}
 use Rattle.up_strand.specs.Gifts.{Given, Gave, share}
-use Rattle.up_strand.specs.Nodes.{IsTaking, IsSound, IsAsPlaced, NodeStands, Took, takes_from}
+use Rattle.up_strand.specs.Nodes.{IsTaking, IsSound, IsAsPlaced, NodeStands, Took, has_failed, takes_from}
 use Rattle.up_strand.specs.Tree.{AreBetween}
 use Rattle.up_strand.specs.declared.node.Node.{Node}
 use Rattle.up_strand.specs.declared.node.Takers.{Takers}
@@ -31,10 +31,15 @@ pub share_all : (input : Option ℕ) (place : ℕ) (flow : Flow) → takes_from 
 share_all input place flow takes = rw takes refl
 
 pub placed_itself : {P K : Type 0} (node : Node P K) → IsAsPlaced node node
-placed_itself node = record { input = refl; takers = refl; outlet = refl }
+placed_itself node = record { input = refl; takers = refl; outlet = refl; stopped = λ failed. refl }
 
 pub placed_on : {P K : Type 0} (a b c : Node P K) → IsAsPlaced a b → IsAsPlaced b c → IsAsPlaced a c
-placed_on a b c one two = record { input = two.input ∙ one.input; takers = two.takers ∙ one.takers; outlet = two.outlet ∙ one.outlet }
+placed_on a b c one two = record {
+  input = two.input ∙ one.input;
+  takers = two.takers ∙ one.takers;
+  outlet = two.outlet ∙ one.outlet;
+  stopped = λ failed. two.stopped (ap has_failed (one.stopped failed) ∙ failed) ∙ one.stopped failed;
+}
 
 module _ {P K : Type 0} (plain : P → PlainPacket) (state : K → SinkState) where
   -- a node that is given nothing

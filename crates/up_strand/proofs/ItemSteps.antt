@@ -12,7 +12,7 @@ use Rattle.up_strand.proofs.ReadSteps.{fed_more, fed_still, same_first}
 use Rattle.up_queue.specs.declared.end_kind.EndKind.{EndKind}
 use Rattle.up_queue.specs.declared.item.Item.{Item}
 use Rattle.up_queue.specs.declared.item.Item.TheVariants.{Packet, End}
-use Rattle.up_strand.proofs.StrandSteps.{goes_on, looked_as, none_is_ready, stepped_on, tree_going}
+use Rattle.up_strand.proofs.StrandSteps.{goes_on, looked_as, none_is_ready, sinks_after, source_in, stepped_on, still_stopped, tree_going}
 use Rattle.up_strand.specs.History.{History, head_flow, carried_by}
 use Rattle.up_strand.specs.Steps.{IsGoing, OnceLooked, TreeIs, TreeTook, taken_where}
 use Rattle.up_strand.specs.StrandCalls.{SteppedItem, end_in, is_done, is_output, packets_in}
@@ -60,6 +60,8 @@ module _ {P S K : Type 0} (plain : P → PlainPacket) (reads : S → SourceState
 
   abbrev did : History
   did = record h {
+    source_now = source_in reads old.intake;
+    sinks_now = sinks_after plain reads writes old h stepped;
     read = h.read ++ [];
     came = h.came ++ came;
     fed = h.fed ++ fed;
@@ -86,9 +88,14 @@ module _ {P S K : Type 0} (plain : P → PlainPacket) (reads : S → SourceState
       (rw (behind old.intake refl) (record {
         fed = lane_stands.fed;
         none = lane_stands.none;
+        none_now = refl;
         alone = append-nil h.read ∙ lane_stands.alone;
         ends = ends;
       }))
+
+  -- it has no source
+  uncalled : source_in reads old.intake ≡ h.source_now
+  uncalled = ap (source_in reads) (behind old.intake refl) ∙ sym lane_stands.none_now
 
   stays : TreeTook plain writes old.tree tree fed → h.short ≡ true → tree.short ≡ true
   stays took short = took.stays (stood.ended.short ∙ short)
@@ -118,10 +125,15 @@ module _ {P S K : Type 0} (plain : P → PlainPacket) (reads : S → SourceState
             ended = ended;
             short = now.tree.short;
             failed = has_failed_at (record old { tree = now.tree; ended = ended; last = None; ready = ready });
+            source_now = source_in reads old.intake;
+            sinks_now = sinks_after plain reads writes old h (record old { tree = now.tree; ended = ended; last = None; ready = ready });
             stands = lane_step plain reads writes old now.tree ended ready h (packets_in plain item) fed wants stood ends took is found (fed_so h stood);
             stays = λ short. took.stays (stood.ended.short ∙ short);
+            stopped = still_stopped plain reads writes old h (record old { tree = now.tree; ended = ended; last = None; ready = ready }) stood refl
+                took.nodes.count took.nodes.placed;
           };
           unread = refl;
+          uncalled = uncalled plain reads writes old now.tree ended ready h [] fed wants stood;
           ended = is_end;
         })
 

@@ -7,6 +7,7 @@ pub mod Found
 pub mod GivenUp
 pub mod Gives
 pub mod HeadFlows
+pub mod HistoryExamples
 pub mod ItemSteps
 pub mod LaneFlows
 pub mod Leaving

@@ -27,12 +27,12 @@ use Rattle.up_strand.proofs.Begun.{one_plus, own_is}
 use Rattle.up_strand.proofs.Reaching.{same_kind}
 use Rattle.up_strand.specs.History.{head_flow}
 use Rattle.up_strand.specs.Making.{CanBegin, HasBegun, caught_at, node_place, seat_in, told_in}
-use Rattle.up_strand.specs.Nodes.{has_ended, is_outlet, is_whole, takes_from}
+use Rattle.up_strand.specs.Nodes.{has_ended, has_failed, is_outlet, is_whole, takes_from}
 use Rattle.up_strand.specs.OfGraph.{AreNodesOf, IsInputOf}
 use Rattle.up_strand.specs.Shapes.{AreTakersIn, IsInputIn, IsShapeOf, input_in}
 use Rattle.up_strand.specs.Stand.{Past, Stand}
 use Rattle.up_strand.specs.StrandCalls.{begun, no_sink, sinks_told}
-use Rattle.up_strand.specs.Strands.{IntakeStands, IsAsEnded, IsBuilt, IsSent, IsWriting, HasRooms, StandsFor, has_failed, has_item, item_waits, kept_at, node_of}
+use Rattle.up_strand.specs.Strands.{IntakeStands, IsAsEnded, IsBuilt, IsSent, IsWriting, HasRooms, StandsFor, has_item, item_waits, kept_at, node_of, place_of}
 use Rattle.up_strand.specs.Tree.{AreTakers, IsSwept, IsTree}
 use Rattle.up_strand.specs.declared.node.Node.{Node}
 use Rattle.up_strand.specs.declared.node.Part.{Part}
@@ -329,14 +329,19 @@ module _ {P S K : Type 0} (plain : P → PlainPacket) (reads : S → SourceState
       last = λ at is. absurd (let wrong : None ≡ Some at = rw made.last at is in cc);
     }
 
-    made_writing : IsWriting strand (begun pipes head source told) (past_begun plain writes pipes head told shape is strand.tree.nodes.items made.count made.each)
+    made_writing : IsWriting strand writes (begun pipes head source told) (past_begun plain writes pipes head told shape is strand.tree.nodes.items made.count made.each)
     made_writing = record {
-      starts = λ i d sink failed within part.
-          let inner : nat_le shape.pipes i ≡ false = sym (made.each i d within).outlet ∙ ap is_outlet part in
-          let below = inner_below plain writes pipes head told shape is _ made.count made.each i inner in
-          rw (made.places, lt-ltb i shape.pipes below) refl;
+      starts = started;
+      now = λ i d sink failed within part. sym (started i d sink failed within part) ∙ (made.each i d within).start sink failed part;
       failed = λ place. sym (failed_none plain writes pipes head told shape is _ made.count made.each (node_of strand place));
     }
+      where
+        started : (i : ℕ) (d : Node P K) (sink : K) (failed : Bool) → i < length strand.tree.nodes.items → (get_or strand.tree.nodes.items i d).part ≡ Sink sink failed
+            → (seat_in pipes shape told i).start ≡ told (place_of strand i)
+        started i d sink failed within part =
+            let inner : nat_le shape.pipes i ≡ false = sym (made.each i d within).outlet ∙ ap is_outlet part in
+            let below = inner_below plain writes pipes head told shape is _ made.count made.each i inner in
+            rw (made.places, lt-ltb i shape.pipes below) refl
 
     pub made_stands : StandsFor plain reads writes strand (begun pipes head source told)
     made_stands = record {

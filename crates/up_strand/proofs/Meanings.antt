@@ -1,5 +1,5 @@
 -- What a strand put out, counted and wrote is what the graph says of the packets that its head had.
-use Rattle.std.proofs.Common.{◌≡◌, ◌≢◌, ℕ, zero, suc, ◌<◌, List, length, get_or, Bool, true, false, not, ◌&&◌, cond, is_some, Option, Some, None, slice_get, refl, sym, ap, ap₂, ◌∙◌, subst, arith, inl, inr, ◌⊎◌}
+use Rattle.std.proofs.Common.{◌≡◌, ◌≢◌, ℕ, zero, suc, ◌+◌, ◌<◌, ◌≤◌, List, length, get_or, Bool, true, false, not, ◌&&◌, cond, is_some, Option, Some, None, slice_get, refl, sym, ap, ap₂, ◌∙◌, subst, arith, inl, inr, ◌⊎◌}
 use Rattle.std.specs.Prelude.{MatchOption, option_and_then, unwrap_or}
 use Rattle.std.specs.Option.{IsSome}
 use Rattle.std.proofs.lemmas.Bool.Decides.{eqb_tells, leb_tells}
@@ -27,11 +27,11 @@ use Rattle.up_strand.proofs.AtMost.{uncaught_grows}
 use Rattle.up_strand.proofs.Reaching as reaching
 use Rattle.up_strand.proofs.Told.{failed_is}
 use Rattle.up_strand.specs.History.{History, doing, head_flow, sums_at, to_head}
-use Rattle.up_strand.specs.Nodes.{is_outlet, is_whole, node_work, takes_from}
+use Rattle.up_strand.specs.Nodes.{has_failed, is_outlet, is_whole, node_work, takes_from}
 use Rattle.up_strand.specs.OfGraph.{AreFedAs, IsReached, IsReachedInPart}
 use Rattle.up_strand.specs.Stand.{AreDone, IsUnfinished}
 use Rattle.up_strand.specs.StrandCalls.{SinkEnds}
-use Rattle.up_strand.specs.Strands.{StandsFor, has_failed, place_of}
+use Rattle.up_strand.specs.Strands.{StandsFor, place_of}
 use Rattle.up_strand.specs.Tree.{AllAt}
 use Rattle.up_strand.specs.Writing.{Receives}
 use Rattle.up_strand.specs.declared.node.Node.{Node}
@@ -259,7 +259,7 @@ module _ {P S K : Type 0} (plain : P → PlainPacket) (reads : S → SourceState
       let works = not (get_or nodes i d).short && not failed in
       let start = stands.writing.starts i d sink failed within is in
       let received : Receives (h.sinks (place i)) (writes sink) works took = subst (λ (s : SinkState). Receives s (writes sink) works took) start part.1 in
-      let faults : CountsWhere failed (h.sinks (place i)).faults (writes sink).faults = subst (λ (s : SinkState). CountsWhere failed s.faults (writes sink).faults) start part.2 in
+      let faults : CountsWhere failed (h.sinks (place i)).faults (writes sink).faults = subst (λ (s : SinkState). CountsWhere failed s.faults (writes sink).faults) start part.2.counts in
       let has : h.failed (place i) ≡ failed = failed_is plain reads writes strand h stands i d within ∙ ap has_failed is in
       record {
         put = received.put;
@@ -269,5 +269,7 @@ module _ {P S K : Type 0} (plain : P → PlainPacket) (reads : S → SourceState
             received.whole (ap₂ (λ short fell. not short && not fell) ((comes long).long i d within) (sym has ∙ right))
             ∙ (comes long).bytes i d pipe within inner part.0 there;
         faults = subst (λ (fell : Bool). CountsWhere fell (h.sinks (place i)).faults (writes sink).faults) (sym has) faults;
+        once = subst (λ (s : SinkState). (writes sink).faults ≤ s.faults + 1) start part.2.once;
+        left = stands.writing.now i d sink failed within is;
         same = received.same;
       }

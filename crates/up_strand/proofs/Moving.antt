@@ -10,10 +10,10 @@ use Rattle.up_model.specs.declared.plain_packet.PlainPacket.{PlainPacket}
 use Rattle.up_outside.specs.States.{SourceState, SinkState}
 use Rattle.up_strand.proofs.Sweeping.{swept_on}
 use Rattle.up_strand.specs.History.{History}
-use Rattle.up_strand.specs.Nodes.{has_ended, is_outlet, is_pipe, is_whole, takes_from}
+use Rattle.up_strand.specs.Nodes.{has_ended, has_failed, is_outlet, is_pipe, is_whole, takes_from}
 use Rattle.up_strand.specs.OfGraph.{AreNodesOf, IsNodeOf}
 use Rattle.up_strand.specs.Stand.{AreAsPlaced, Past, Stand}
-use Rattle.up_strand.specs.Strands.{EndsRightly, IntakeStands, IsAsEnded, IsBuilt, IsSent, StandsFor, has_failed, node_of, place_of}
+use Rattle.up_strand.specs.Strands.{EndsRightly, IntakeStands, IsAsEnded, IsBuilt, IsSent, StandsFor, node_of, place_of}
 use Rattle.up_strand.specs.declared.intake.Intake.{Intake}
 use Rattle.up_strand.specs.declared.intake.Intake.TheVariants.{FromSource, FromLane}
 use Rattle.up_strand.specs.declared.node.Node.{Node}
@@ -57,6 +57,7 @@ module _ (h : History) (sent : ℕ → Flow) (closed : ℕ → Bool) where
     kind = stood.kind;
     start = stood.start;
     told = stood.told;
+    told_now = stood.told_now;
     took = stood.took;
     faults = stood.faults;
     ends = ends_so limit (reads source).left h.ended stood.ends;
@@ -66,7 +67,7 @@ module _ (h : History) (sent : ℕ → Flow) (closed : ℕ → Bool) where
     in_limit = stood.in_limit;
     alone = stood.alone;
   }
-  intake_so reads FromLane stood = record { fed = stood.fed; none = stood.none; alone = stood.alone; ends = stood.ends }
+  intake_so reads FromLane stood = record { fed = stood.fed; none = stood.none; none_now = stood.none_now; alone = stood.alone; ends = stood.ends }
 
 module _ {P K : Type 0} (olds news : List (Node P K)) (alike : AreSameButOut olds news) where
   part_same : (i : ℕ) (d : Node P K) → (get_or news i d).part ≡ (get_or olds i d).part
@@ -83,6 +84,7 @@ module _ {P K : Type 0} (olds news : List (Node P K)) (alike : AreSameButOut old
     input = input_same i d;
     takers = ap (λ (n : Node P K). n.takers) (alike.same i d);
     outlet = ap is_outlet (part_same i d);
+    stopped = λ failed. part_same i d;
   }
 
   failed_same : (found : Option ℕ) → option_map_or (λ (n : Node P K). has_failed n.part) (option_and_then (slice_get olds) found) false
@@ -194,6 +196,7 @@ module _ {P S K : Type 0} (plain : P → PlainPacket) (reads : S → SourceState
     sent = is_sent;
     writing = record {
       starts = λ i d sink failed within is. stands.writing.starts i d sink failed (inside i within) (sym (part_same olds news alike i d) ∙ is);
+      now = λ i d sink failed within is. stands.writing.now i d sink failed (inside i within) (sym (part_same olds news alike i d) ∙ is);
       failed = λ place. stands.writing.failed place ∙ failed_same olds news alike (node_of old place);
     };
   }

@@ -17,7 +17,7 @@ use Rattle.up_model.specs.declared.kind.Kind.{Kind}
 use Rattle.up_model.specs.declared.kind.Kind.TheVariants as kinds
 use Rattle.up_model.specs.declared.plain_packet.PlainPacket.{PlainPacket}
 use Rattle.up_model.specs.declared.tally.Tally.{Tally}
-use Rattle.up_outside.specs.Counts.{CountsWhere}
+use Rattle.up_outside.specs.Counts.{CountsOnce}
 use Rattle.up_outside.specs.States.{SinkState}
 use Rattle.up_shape.specs.Growth.{Grew, GrewInPart}
 use Rattle.up_shape.specs.Outgoing.{Outgoing}
@@ -314,7 +314,7 @@ module _ {P K : Type 0} (plain : P → PlainPacket) (state : K → SinkState) wh
     pub sink_took : (sink sink' : K) (failed failed' : Bool) → old.part ≡ Sink sink failed → new.part ≡ Sink sink' failed'
         → ((start : SinkState) (before : List ℕ) → Receives start (state sink) (not failed) before
         → Receives start (state sink') (not new.short && not failed') (before ++ packet.bytes))
-        → ((before : ℕ) → CountsWhere failed before (state sink).faults → CountsWhere failed' before (state sink').faults)
+        → ((before : ℕ) → CountsOnce failed before (state sink).faults → CountsOnce failed' before (state sink').faults)
         → new.out.packets ≡ old.out.packets → new.out.tally ≡ added old.out.tally (record { taken = 1; put = 0; dropped = 0; cut = 0; gained = 0; lost = 0 })
         → Took plain state old new (packet ∷ [])
     sink_took sink sink' failed failed' is is' receives faults packets tally seat fed gone stood =

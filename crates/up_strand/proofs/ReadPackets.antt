@@ -2,7 +2,7 @@
 use Rattle.std.proofs.Common.{◌≡◌, ℕ, ◌+◌, ◌≤◌, List, length, take, subst, sym, arith}
 use Rattle.std.proofs.lemmas.List.{length-take-le}
 use Rattle.up_model.specs.declared.plain_packet.PlainPacket.{PlainPacket}
-use Rattle.up_outside.specs.Counts.{CountsWhere}
+use Rattle.up_outside.specs.Counts.{CountsOnce}
 use Rattle.up_outside.specs.States.{SourceState}
 use Rattle.up_strand.specs.Reads.{WereRead, Fills, is_fault, is_read_fault, AreReadAs, ReadsPacket}
 use Rattle.up_strand.specs.declared.fill.Filled.{Filled}
@@ -21,5 +21,5 @@ read_as plain block left want old new room filled next fits in_block in_limit in
       in_block = omega (arith, count, fits, in_block);
       in_limit = omega (arith, count, fits, in_limit);
       are = are count;
-      faults = subst (λ b. CountsWhere b old.faults new.faults) fault fills.faults;
+      faults = subst (λ b. CountsOnce b old.faults new.faults) fault fills.faults;
     }

@@ -1,5 +1,5 @@
 -- What a strand whose head is a source did, once a packet's worth more was read.
-use Rattle.std.proofs.Common.{◌≡◌, ℕ, ◌+◌, ◌*◌, ◌<◌, ◌≤◌, List, [], ◌∷◌, ◌++◌, length, take, Bool, true, false, Option, None, refl, sym, ap, ◌∙◌, subst, append-nil, append_assoc, arith, length-append, length-take}
+use Rattle.std.proofs.Common.{◌≡◌, ℕ, ◌+◌, ◌*◌, ◌<◌, ◌≤◌, List, [], ◌∷◌, ◌++◌, length, take, Bool, true, false, Option, Some, None, refl, sym, ap, ◌∙◌, subst, append-nil, append_assoc, arith, length-append, length-take}
 use Rattle.std.proofs.KnownBytes.{Consumes-trans}
 use Rattle.up_base.specs.Lists.{IsPrefix}
 use Rattle.up_model.proofs.Blocks.{full_blocks-go_on}
@@ -10,8 +10,8 @@ use Rattle.up_model.specs.declared.kind.Kind.TheVariants as kinds
 use Rattle.up_model.specs.declared.outcome.Outcome.{Outcome}
 use Rattle.up_model.specs.declared.plain_packet.PlainPacket.{PlainPacket}
 use Rattle.up_outside.proofs.Told.{summed_on}
-use Rattle.up_outside.specs.Counts.{CountsWhere}
-use Rattle.up_outside.specs.States.{SourceState}
+use Rattle.up_outside.specs.Counts.{CountsOnce}
+use Rattle.up_outside.specs.States.{SourceState, SinkState}
 use Rattle.up_outside.specs.Told.{Then}
 use Rattle.up_strand.proofs.Cutting.{full_blocks-more, full_blocks-short, blocks-more, blocks-even, within_limit}
 use Rattle.up_strand.specs.History.{History, head_flow, carried_by}
@@ -61,10 +61,12 @@ pub same_first : (flow now : Flow) → now ≡ flow → IsPrefix flow now
 same_first flow now is = ([], is ∙ sym (append-nil flow))
 
 module _ (h : History) (was now : SourceState) (block limit left : ℕ) (reading : IsReading was block limit left h) (going : h.ended ≡ None)
-    (taken : List ℕ) (took : WereRead was now taken (length taken)) (fed : Flow) (ended : Option Outcome) (short : Bool) (failed : ℕ → Bool)
-    (faults : CountsWhere (ended_at_fault ended) was.faults now.faults) where
+    (taken : List ℕ) (took : WereRead was now taken (length taken)) (fed : Flow) (ended : Option Outcome) (short : Bool) (failed : ℕ → Bool) (sinks_now : ℕ → SinkState)
+    (faults : CountsOnce (ended_at_fault ended) was.faults now.faults) where
   abbrev then_read : History
   then_read = record h {
+    source_now = Some now;
+    sinks_now = sinks_now;
     read = h.read ++ taken;
     came = h.came ++ [];
     fed = h.fed ++ fed;
@@ -85,10 +87,11 @@ module _ (h : History) (was now : SourceState) (block limit left : ℕ) (reading
     kind = reading.kind;
     start = reading.start;
     told = reading.told;
+    told_now = refl;
     took = took_on reading.start was now h.read taken reading.took took;
     faults =
         let none : ended_at_fault h.ended ≡ false = ap ended_at_fault going in
-        subst (λ (n : ℕ). CountsWhere (ended_at_fault ended) n now.faults) (reading.faults.stays none) faults;
+        subst (λ (n : ℕ). CountsOnce (ended_at_fault ended) n now.faults) (reading.faults.counts.stays none) faults;
     ends = ends;
     rest = rest;
     even = even;

@@ -12,11 +12,11 @@ use Rattle.up_model.specs.declared.outcome.Outcome.{Outcome}
 use Rattle.up_model.specs.declared.outcome.Outcome.TheVariants as outcomes
 use Rattle.up_model.specs.declared.pipe.Pipe.{Pipe}
 use Rattle.up_model.specs.declared.plain_packet.PlainPacket.{PlainPacket}
-use Rattle.up_outside.specs.Counts.{CountsWhere}
+use Rattle.up_outside.specs.Counts.{CountsOnce}
 use Rattle.up_outside.specs.States.{SourceState, SinkState}
 use Rattle.up_shape.specs.Stores.{StoreState, Stays}
 use Rattle.up_strand.proofs.ReadSteps.{block_more, end_more, fault_more, flow_now, go_on, last_more, long_more, reading_on, same_first}
-use Rattle.up_strand.proofs.StrandSteps.{goes_on, looked_as, stepped_on, tree_going}
+use Rattle.up_strand.proofs.StrandSteps.{goes_on, looked_as, sinks_after, stepped_on, still_stopped, tree_going}
 use Rattle.up_strand.specs.Gifts.{NodesFit}
 use Rattle.up_strand.specs.History.{History, head_flow, carried_by}
 use Rattle.up_strand.specs.Reads.{ReadsPacket, is_read_fault as is_fault_of}
@@ -94,8 +94,10 @@ module _ {P S K : Type 0} (plain : P → PlainPacket) (reads : S → SourceState
         subst IsLegal (sym is) (plain_is_legal taken (omega (arith, small, within)))
 
     module _ (source_now : S) (left_now : ℕ) (taken : List ℕ) (ended : Option Outcome) (fed : Flow) (short : Bool) (h : History) where
-      abbrev did : (ℕ → Bool) → History
-      did failed = record h {
+      abbrev did : (ℕ → Bool) → (ℕ → SinkState) → History
+      did failed sinks_now = record h {
+        source_now = Some (reads source_now);
+        sinks_now = sinks_now;
         read = h.read ++ taken;
         came = h.came ++ [];
         fed = h.fed ++ fed;
@@ -106,7 +108,7 @@ module _ {P S K : Type 0} (plain : P → PlainPacket) (reads : S → SourceState
 
       -- what is to be known of a history, that it goes on so
       pub record GoesOn (reading : IsReading (reads source) block limit left h) : Type 0 where
-        pub ends : (failed : ℕ → Bool) → EndsRightly limit (reads source_now).left (did failed) ended
+        pub ends : (failed : ℕ → Bool) (sinks_now : ℕ → SinkState) → EndsRightly limit (reads source_now).left (did failed sinks_now) ended
         pub rest : ended ≡ None → length (h.read ++ taken) + left_now ≡ limit
         pub even : ended ≡ None → (count : ℕ) × (length (h.read ++ taken) ≡ count * block)
         pub moves : ended ≡ None → 0 < length taken
@@ -132,20 +134,23 @@ module _ {P S K : Type 0} (plain : P → PlainPacket) (reads : S → SourceState
         abbrev failed : ℕ → Bool
         failed = has_failed_at (stepped ready)
 
-        faults : CountsWhere (ended_at_fault ended) (reads source).faults (reads source_now).faults
-        faults = subst (λ (b : Bool). CountsWhere b (reads source).faults (reads source_now).faults) fault read.faults
+        abbrev sinks_now : ℕ → SinkState
+        sinks_now = sinks_after plain reads writes old h (stepped ready)
 
-        flow_is : head_flow (did source_now left_now read.taken ended fed now.tree.short h failed)
+        faults : CountsOnce (ended_at_fault ended) (reads source).faults (reads source_now).faults
+        faults = subst (λ (b : Bool). CountsOnce b (reads source).faults (reads source_now).faults) fault read.faults
+
+        flow_is : head_flow (did source_now left_now read.taken ended fed now.tree.short h failed sinks_now)
             ≡ carried_by ended (kinds.Source reading.path (Raw block) limit) (h.read ++ read.taken)
-        flow_is = flow_now h (reads source) (reads source_now) block limit left reading (was_going h stood) read.taken read.took fed ended now.tree.short failed faults
+        flow_is = flow_now h (reads source) (reads source_now) block limit left reading (was_going h stood) read.taken read.took fed ended now.tree.short failed sinks_now faults
 
-        stands : StandsFor plain reads writes (stepped ready) (did source_now left_now read.taken ended fed now.tree.short h failed)
+        stands : StandsFor plain reads writes (stepped ready) (did source_now left_now read.taken ended fed now.tree.short h failed sinks_now)
         stands =
             stepped_on plain reads writes old now.tree (FromSource source_now block limit left_now) ended ready h read.taken [] fed not_output not_done
             took.order took.nodes.count took.nodes.placed stood took.nodes.stand is found
             (rw flow_is (goes.first, goes.all))
-            (reading_on h (reads source) (reads source_now) block limit left reading (was_going h stood) read.taken read.took fed ended now.tree.short failed faults
-            left_now (goes.ends failed) goes.rest goes.even)
+            (reading_on h (reads source) (reads source_now) block limit left reading (was_going h stood) read.taken read.took fed ended now.tree.short failed sinks_now faults
+            left_now (goes.ends failed sinks_now) goes.rest goes.even)
 
         in_block : (pipe : Pipe) (path : List ℕ) (size most : ℕ) → slice_get h.pipes h.head ≡ Some pipe → pipe.kind ≡ kinds.Source path (Raw size) most
             → length read.taken ≤ size
@@ -164,8 +169,11 @@ module _ {P S K : Type 0} (plain : P → PlainPacket) (reads : S → SourceState
             ended = ended;
             short = now.tree.short;
             failed = failed;
+            source_now = Some (reads source_now);
+            sinks_now = sinks_now;
             stands = stands;
             stays = λ was. took.stays (stood.ended.short ∙ was);
+            stopped = still_stopped plain reads writes old h (stepped ready) stood refl took.nodes.count took.nodes.placed;
           };
           moves = goes.moves;
           one = one;
@@ -209,10 +217,10 @@ module _ {P S K : Type 0} (plain : P → PlainPacket) (reads : S → SourceState
           let one_more : (even.0 + 1) * block ≡ even.0 * block + block = omega arith in
           let flow : carried_by (ended_where now.tree.short) (kinds.Source reading.path (Raw block) limit) (h.read ++ read.taken) ≡ h.fed ++ plain p ∷ [] =
           carried_where now.tree.short reading.path block limit (h.read ++ read.taken)
-          ∙ block_more h (reads source) (reads source_now) block limit left reading going read.taken read.took [] None false (λ place. false) read.faults whole
+          ∙ block_more h (reads source) (reads source_now) block limit left reading going read.taken read.took [] None false (λ place. false) h.sinks_now read.faults whole
           ∙ ap (λ (x : PlainPacket). head_flow h ++ x ∷ []) (sym read.are.0) ∙ ap (λ (f : Flow). f ++ plain p ∷ []) (sym (was_all h stood)) in
           record {
-            ends = λ failed. ends_where limit (reads source_now).left (did source_now (left - wide) read.taken (ended_where now.tree.short) (plain p ∷ []) now.tree.short h failed)
+            ends = λ failed sinks_now. ends_where limit (reads source_now).left (did source_now (left - wide) read.taken (ended_where now.tree.short) (plain p ∷ []) now.tree.short h failed sinks_now)
                 now.tree.short refl (omega (arith, sum, whole, fits, long, width));
             rest = λ none. omega (arith, sum, whole, fits, long, width);
             even = λ none. (even.0 + 1, omega (arith, is_even, one_more, whole, long));
@@ -236,10 +244,10 @@ module _ {P S K : Type 0} (plain : P → PlainPacket) (reads : S → SourceState
           let fits = read.are.3 in
           let long = length-append h.read read.taken in
           let flow : blocks block (h.read ++ read.taken) ≡ h.fed ++ plain p ∷ [] =
-          last_more h (reads source) (reads source_now) block limit left reading going read.taken read.took [] None false (λ place. false) read.faults read.are.1 read.are.2
+          last_more h (reads source) (reads source_now) block limit left reading going read.taken read.took [] None false (λ place. false) h.sinks_now read.faults read.are.1 read.are.2
           ∙ ap (λ (x : PlainPacket). head_flow h ++ x ∷ []) (sym read.are.0) ∙ ap (λ (f : Flow). f ++ plain p ∷ []) (sym (was_all h stood)) in
           record {
-            ends = λ failed. (omega (arith, sum, fits, long), read.are.4);
+            ends = λ failed sinks_now. (omega (arith, sum, fits, long), read.are.4);
             rest = λ wrong. absurd (cc);
             even = λ wrong. absurd (cc);
             moves = λ wrong. absurd (cc);
@@ -267,9 +275,9 @@ module _ {P S K : Type 0} (plain : P → PlainPacket) (reads : S → SourceState
           let long = length-append h.read read.taken in
           let none : length read.taken ≡ 0 = ap length read.are.0 in
           let flow = still h stood (blocks block (h.read ++ read.taken))
-          (end_more h (reads source) (reads source_now) block limit left reading going read.taken read.took [] None false (λ place. false) read.faults read.are.0) in
+          (end_more h (reads source) (reads source_now) block limit left reading going read.taken read.took [] None false (λ place. false) h.sinks_now read.faults read.are.0) in
           record {
-            ends = λ failed. (omega (arith, sum, none, long), read.are.1);
+            ends = λ failed sinks_now. (omega (arith, sum, none, long), read.are.1);
             rest = λ wrong. absurd (cc);
             even = λ wrong. absurd (cc);
             moves = λ wrong. absurd (cc);
@@ -292,9 +300,9 @@ module _ {P S K : Type 0} (plain : P → PlainPacket) (reads : S → SourceState
           let fits = read.are.1 in
           let long = length-append h.read read.taken in
           let flow = still h stood (full_blocks block (h.read ++ read.taken))
-          (fault_more h (reads source) (reads source_now) block limit left reading going read.taken read.took [] (Some outcomes.ReadFault) false (λ place. false) read.faults read.are.0) in
+          (fault_more h (reads source) (reads source_now) block limit left reading going read.taken read.took [] (Some outcomes.ReadFault) false (λ place. false) h.sinks_now read.faults read.are.0) in
           record {
-            ends = λ failed. (short ∙ tree_long h stood, omega (arith, sum, fits, long));
+            ends = λ failed sinks_now. (short ∙ tree_long h stood, omega (arith, sum, fits, long));
             rest = λ wrong. absurd (cc);
             even = λ wrong. absurd (cc);
             moves = λ wrong. absurd (cc);
@@ -317,9 +325,9 @@ module _ {P S K : Type 0} (plain : P → PlainPacket) (reads : S → SourceState
           let over : length read.taken ≡ left + 1 = read.are in
           let long = length-append h.read read.taken in
           let flow = still h stood (full_blocks block (take limit (h.read ++ read.taken)))
-          (long_more h (reads source) (reads source_now) block limit left reading going read.taken read.took [] None false (λ place. false) read.faults over read.in_block) in
+          (long_more h (reads source) (reads source_now) block limit left reading going read.taken read.took [] None false (λ place. false) h.sinks_now read.faults over read.in_block) in
           record {
-            ends = λ failed. (short ∙ tree_long h stood, refl, omega (arith, sum, over, long));
+            ends = λ failed sinks_now. (short ∙ tree_long h stood, refl, omega (arith, sum, over, long));
             rest = λ wrong. absurd (cc);
             even = λ wrong. absurd (cc);
             moves = λ wrong. absurd (cc);
@@ -344,12 +352,12 @@ module _ {P S K : Type 0} (plain : P → PlainPacket) (reads : S → SourceState
           let long = length-append h.read read.taken in
           let front : h.fed ++ [] ≡ head_flow h = append-nil h.fed ∙ was_all h stood in
           record {
-            ends = λ failed. (short, omega (arith, sum, fits, long));
+            ends = λ failed sinks_now. (short, omega (arith, sum, fits, long));
             rest = λ wrong. absurd (cc);
             even = λ wrong. absurd (cc);
             moves = λ wrong. absurd (cc);
             first = subst (λ (f : Flow). IsPrefix f (full_blocks block (h.read ++ read.taken))) (sym front)
-                (go_on h (reads source) (reads source_now) block limit left reading going read.taken read.took [] None false (λ place. false)
-                (subst (λ (b : Bool). CountsWhere b (reads source).faults (reads source_now).faults) fault read.faults));
+                (go_on h (reads source) (reads source_now) block limit left reading going read.taken read.took [] None false (λ place. false) h.sinks_now
+                (subst (λ (b : Bool). CountsOnce b (reads source).faults (reads source_now).faults) fault read.faults));
             all = λ is_long. let wrong : true ≡ false = sym short ∙ is_long in absurd (cc);
           })

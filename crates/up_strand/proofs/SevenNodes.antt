@@ -99,7 +99,7 @@ module _ {P K : Type 0} (plain : P → PlainPacket) (state : K → SinkState) wh
       → NodeStands plain state (sink_seat (state sink)) node [] []
   unfolding sink_seat
   new_sink node sink stands = stands (sink_seat (state sink)) ((path_is_utf8, refl), tt)
-      (tt, receives_nothing (state sink) true, record { later = omega arith; rose = λ wrong. absurd (cc); stays = λ is. refl })
+      (tt, receives_nothing (state sink) true, record { counts = record { later = omega arith; rose = λ wrong. absurd (cc); stays = λ is. refl }; once = omega arith })
 
   pub new_head : (start : SinkState) (node : Node P K)
       → ((seat : Seat) → IfSome seat.kind IsWithinBounds → PartStands plain state seat false Head [] → NodeStands plain state seat node [] [])

@@ -1,8 +1,10 @@
 -- A strand whose nodes took more, or whose flow ended: what goes on as it was.
-use Rattle.std.proofs.Common.{◌≡◌, ℕ, ◌<◌, List, [], ◌++◌, length, map, get_or, Bool, true, false, Option, Some, None, is_some, refl, sym, ap, ◌∙◌, subst, arith, inl, inr}
-use Rattle.std.specs.Prelude.{◌==◌, MatchOption, if◌then◌else◌}
+use Rattle.std.proofs.Common.{◌≡◌, ℕ, ◌<◌, List, [], ◌++◌, length, map, get_or, Bool, true, false, Option, Some, None, slice_get, is_some, refl, sym, ap, ◌∙◌, subst, arith, inl, inr}
+use Rattle.std.specs.Prelude.{◌==◌, ◌⊎◌, ◌≤◌, MatchOption, Vec, option_and_then, if◌then◌else◌}
+use Rattle.std.specs.Global.{Global}
 use Rattle.std.specs.Option.{option_map_or, option_to_list}
-use Rattle.std.proofs.lemmas.Bool.{lt-leb}
+use Rattle.std.proofs.lemmas.Bool.{cases_Bool, lt-leb}
+use Rattle.std.proofs.lemmas.Option.{slice_get-get_or, slice_get_cases}
 use Rattle.up_base.specs.Lists.{IsPrefix}
 use Rattle.up_model.specs.Chain.{IsRawSink}
 use Rattle.up_model.specs.Ends.{is_source}
@@ -18,14 +20,16 @@ use Rattle.up_outside.specs.States.{SourceState, SinkState}
 use Rattle.up_strand.proofs.Found.{none_inside, ready_same}
 use Rattle.up_strand.proofs.NodeSteps.{any_has_module}
 use Rattle.up_strand.proofs.Sweeping.{swept_on}
+use Rattle.up_strand.proofs.Told.{failed_is, place_found}
 use Rattle.up_strand.specs.AnyModule.{any_kind, has_module}
 use Rattle.up_strand.specs.History.{History, head_flow}
-use Rattle.up_strand.specs.Nodes.{PartStands, Seat, is_outlet, takes_from}
+use Rattle.up_strand.specs.Nodes.{PartStands, Seat, has_failed, is_outlet, takes_from}
 use Rattle.up_strand.specs.Stand.{Past, Stand, StandWith, Went, AreAsPlaced}
 use Rattle.up_strand.specs.Steps.{IsGoing, OnceLooked, TreeIs, looked_from}
-use Rattle.up_strand.specs.StrandCalls.{is_done, is_output}
-use Rattle.up_strand.specs.Strands.{IntakeStands, IsAsEnded, IsBuilt, IsSent, IsWriting, StandsFor, StandsForSome, StrandFits, first_ready, has_failed_at, has_item, kept_at, place_of, want_of}
+use Rattle.up_strand.specs.StrandCalls.{is_done, is_output, no_sink}
+use Rattle.up_strand.specs.Strands.{IntakeStands, IsAsEnded, IsBuilt, IsSent, IsWriting, StandsFor, StandsForSome, StrandFits, first_ready, has_failed_at, has_item, kept_at, node_of, place_of, want_of}
 use Rattle.up_strand.specs.declared.intake.Intake.{Intake}
+use Rattle.up_strand.specs.declared.intake.Intake.TheVariants.{FromSource, FromLane}
 use Rattle.up_strand.specs.declared.node.Node.{Node}
 use Rattle.up_strand.specs.declared.node.Part.{Part}
 use Rattle.up_strand.specs.declared.node.Part.TheVariants.{Head, Pipe as PipePart, Sink, Outlet, Ended}
@@ -98,6 +102,79 @@ module _ {P S K : Type 0} (strand : Strand P S K) where
           let within = (sent.kept (ap is_some is)).1 in
           absurd (omega (arith, within, at_end))
 
+-- what the source of a head tells, where it is one
+abbrev pub source_in : {S : Type 0} → (S → SourceState) → Intake S → Option SourceState
+source_in reads (FromSource source block limit left) = Some (reads source)
+source_in reads FromLane = None
+
+-- what the sink of a part tells, where it is one
+abbrev pub sink_in : {K : Type 0} → (K → SinkState) → Part K → SinkState
+sink_in writes (Sink sink failed) = writes sink
+sink_in writes part = no_sink
+
+failed_sink : {K : Type 0} (part : Part K) → has_failed part ≡ true → (sink : K) × (part ≡ Sink sink true)
+failed_sink Head failed = absurd (cc)
+failed_sink (PipePart m) failed = absurd (cc)
+failed_sink (Sink sink true) failed = (sink, refl)
+failed_sink (Sink sink false) failed = absurd (cc)
+failed_sink Outlet failed = absurd (cc)
+failed_sink (Ended whole) failed = absurd (cc)
+
+same_sink : {K : Type 0} (a b : K) (had has : Bool) → Sink a had ≡ Sink b has → a ≡ b
+same_sink a b had has same = cc
+
+module _ {P S K : Type 0} (plain : P → PlainPacket) (reads : S → SourceState) (writes : K → SinkState)
+    (old : Strand P S K) (h : History) (new : Strand P S K) where
+  -- what the sinks tell after a step: one that had failed tells what it told
+  abbrev pub sinks_after : ℕ → SinkState
+  sinks_after place =
+      if h.failed place then h.sinks_now place
+      else option_map_or (λ node. sink_in writes node.part) (option_and_then (slice_get new.tree.nodes.items) (node_of new place)) no_sink
+
+  module _ (stood : StandsFor plain reads writes old h) (places : new.places ≡ old.places)
+      (same : length new.tree.nodes.items ≡ length old.tree.nodes.items) (placed : AreAsPlaced old.tree.nodes.items new.tree.nodes.items) where
+    pub sinks_told_after : (i : ℕ) (d : Node P K) (sink : K) (failed : Bool) → i < length new.tree.nodes.items
+        → (get_or new.tree.nodes.items i d).part ≡ Sink sink failed → sinks_after (place_of new i) ≡ writes sink
+    sinks_told_after i d sink failed within is =
+        let here : i < length old.tree.nodes.items = omega arith in
+        let place : place_of new i ≡ place_of old i = ap (λ (items : Vec ℕ Global). get_or items.items i 0) places in
+        let had : h.failed (place_of new i) ≡ has_failed (get_or old.tree.nodes.items i d).part =
+        ap h.failed place ∙ failed_is plain reads writes old h stood i d here in
+        elim (cases_Bool (has_failed (get_or old.tree.nodes.items i d).part)) [
+          | inl stopped ↦
+              let before = failed_sink (get_or old.tree.nodes.items i d).part stopped in
+              let sink_is : before.0 ≡ sink = same_sink before.0 sink true failed (sym before.1 ∙ sym ((placed i d here).stopped stopped) ∙ is) in
+              let told : h.sinks_now (place_of old i) ≡ writes before.0 = stood.writing.now i d before.0 true here before.1 in
+              rw (had ∙ stopped) (ap h.sinks_now place ∙ told ∙ ap writes sink_is)
+          | inr works ↦
+              let count = stood.built.count in
+              let found : node_of new (place_of new i) ≡ Some i =
+              rw places (place_found old.places.items i stood.built.apart (omega (arith, here, count))) in
+              rw (had ∙ works, found, slice_get-get_or new.tree.nodes.items i d within, is) refl
+        ]
+
+    -- a sink that had failed has failed still, and tells what it told
+    pub still_stopped : (place : ℕ) → h.failed place ≡ true → (has_failed_at new place ≡ true) × (sinks_after place ≡ h.sinks_now place)
+    still_stopped place failed = (
+      rw places (by_node (node_of old place) (sym (stood.writing.failed place) ∙ failed)),
+      rw failed refl,
+    )
+      where
+        by_node : (found : Option ℕ) → option_map_or (λ (node : Node P K). has_failed node.part) (option_and_then (slice_get old.tree.nodes.items) found) false ≡ true
+            → option_map_or (λ (node : Node P K). has_failed node.part) (option_and_then (slice_get new.tree.nodes.items) found) false ≡ true
+        by_node None is = absurd (cc)
+        by_node (Some i) is = by_place (slice_get_cases old.tree.nodes.items i).1
+          where
+            by_place : ((x : Node P K) × (i < length old.tree.nodes.items) × (slice_get old.tree.nodes.items i ≡ Some x) × (get_or old.tree.nodes.items i x ≡ x)) ⊎ ((length old.tree.nodes.items ≤ i) × (slice_get old.tree.nodes.items i ≡ None))
+                → option_map_or (λ (node : Node P K). has_failed node.part) (slice_get new.tree.nodes.items i) false ≡ true
+            by_place (inl there) =
+                let before : has_failed there.0.part ≡ true = rw there.2 at is in
+                let here : has_failed (get_or old.tree.nodes.items i there.0).part ≡ true = ap (λ (n : Node P K). has_failed n.part) there.3 ∙ before in
+                let now : has_failed (get_or new.tree.nodes.items i there.0).part ≡ true = ap has_failed ((placed i there.0 there.1).stopped here) ∙ here in
+                let inside : i < length new.tree.nodes.items = let less = there.1 in omega (arith, same, less) in
+                rw (slice_get-get_or new.tree.nodes.items i there.0 inside) now
+            by_place (inr past) = let wrong : false ≡ true = rw past.1 at is in absurd (cc)
+
 module _ {P S K : Type 0} (plain : P → PlainPacket) (reads : S → SourceState) (writes : K → SinkState)
     (old : Strand P S K) (tree : Tree P K) (intake : Intake S) (ended : Option Outcome) (ready : ℕ)
     (h : History) (read : List ℕ) (came fed : Flow)
@@ -110,6 +187,8 @@ module _ {P S K : Type 0} (plain : P → PlainPacket) (reads : S → SourceState
 
   abbrev pub grown : History
   grown = record h {
+    source_now = source_in reads intake;
+    sinks_now = sinks_after plain reads writes old h after;
     read = h.read ++ read;
     came = h.came ++ came;
     fed = h.fed ++ fed;
@@ -180,11 +259,12 @@ module _ {P S K : Type 0} (plain : P → PlainPacket) (reads : S → SourceState
           last = λ place is. absurd (cc);
         }
 
-    writing_on : Stand plain writes old.tree.nodes.items past → IsWriting old h past → IsWriting after grown since
-    writing_on stand writing = record {
+    writing_on : StandsFor plain reads writes old h → Stand plain writes old.tree.nodes.items past → IsWriting old writes h past → IsWriting after writes grown since
+    writing_on stood stand writing = record {
       starts = λ i d sink failed within is.
           let before = sink_before plain writes old.tree.nodes.items tree.nodes.items past went.fed went.gone same stand went.stand i d sink failed within is in
           writing.starts i d before.0 before.1 (omega arith) before.2;
+      now = sinks_told_after plain reads writes old h after stood refl same placed;
       failed = λ place. refl;
     }
 
@@ -212,7 +292,7 @@ module _ {P S K : Type 0} (plain : P → PlainPacket) (reads : S → SourceState
         };
         intake = intake_stands;
         sent = sent_on stood.past went stood stood.sent found;
-        writing = writing_on stood.past went stood.stand stood.writing;
+        writing = writing_on stood.past went stood stood.stand stood.writing;
       }
 
   -- the same for a tree that took a flow, and ended so or not

@@ -25,8 +25,8 @@ use Rattle.up_strand.proofs.Reaching.{same_kind}
 use Rattle.up_model.specs.Meaning.{selected}
 use Rattle.up_strand.specs.AnyModule.{any_kind, has_module}
 use Rattle.up_strand.specs.History.{History, outcome_by, outcome_of_source, outcome_without, told_at}
-use Rattle.up_strand.specs.Nodes.{Seat, PartStands, is_outlet}
-use Rattle.up_strand.specs.Strands.{StandsFor, has_failed, node_of, outcome_of_part, place_of}
+use Rattle.up_strand.specs.Nodes.{Seat, PartStands, has_failed, is_outlet}
+use Rattle.up_strand.specs.Strands.{StandsFor, node_of, outcome_of_part, place_of}
 use Rattle.up_strand.specs.declared.node.Node.{Node}
 use Rattle.up_strand.specs.declared.node.Part.{Part}
 use Rattle.up_strand.specs.declared.node.Part.TheVariants.{Head, Pipe as PipePart, Sink, Outlet, Ended}

@@ -24,6 +24,9 @@ pub record History : Type 0 where
   -- what its source told then, where it has one, and each sink by the place of its pipe
   pub source : Option SourceState
   pub sinks : ℕ → SinkState
+  -- and what they tell now
+  pub source_now : Option SourceState
+  pub sinks_now : ℕ → SinkState
   -- the bytes that its source gave since, and the packets that came through its lane
   pub read : List ℕ
   pub came : Flow

@@ -9,13 +9,13 @@ use Rattle.up_model.specs.declared.catch_set.CatchSet.{CatchSet}
 use Rattle.up_model.specs.declared.pipe.Pipe.{Pipe}
 use Rattle.up_model.specs.declared.plain_packet.PlainPacket.{PlainPacket}
 use Rattle.up_outside.specs.States.{SinkState}
-use Rattle.up_strand.specs.Nodes.{IsSound, NodeStands, Seat, is_outlet}
+use Rattle.up_strand.specs.Nodes.{IsSound, NodeStands, Seat, has_failed, is_outlet}
 use Rattle.up_strand.specs.Rooms.{HasOnlyRoom}
 use Rattle.up_strand.specs.Shapes.{IsShapeOf, input_in}
 use Rattle.up_strand.specs.StrandCalls.{no_sink}
-use Rattle.up_strand.specs.Strands.{has_failed}
 use Rattle.up_strand.specs.declared.making.Rooms.{Rooms}
 use Rattle.up_strand.specs.declared.node.Node.{Node}
+use Rattle.up_strand.specs.declared.node.Part.TheVariants.{Sink}
 use Rattle.up_strand.specs.declared.shape.Shape.{Shape}
 
 abbrev pub catches_nothing : CatchSet
@@ -74,6 +74,8 @@ module _ (pipes : List Pipe) (shape : Shape) where
       pub input : node.input ≡ input_in shape.inputs.items i
       pub takers : node.takers ≡ slice_index_or shape.takers.items i None
       pub outlet : is_outlet node.part ≡ nat_le shape.pipes i
+      pub start : (sink : K) (failed : Bool) → node.part ≡ Sink sink failed
+          → (seat_in told i).start ≡ state sink
       pub failed : has_failed node.part ≡ false
       pub empty : node.out.packets ≡ []
       pub sound : IsSound node

@@ -9,7 +9,7 @@ use Rattle.up_model.specs.Tallies.{IsAtMost, nothing, stopped}
 use Rattle.up_model.specs.Work.{Work}
 use Rattle.up_model.specs.declared.kind.Kind.{Kind}
 use Rattle.up_model.specs.declared.plain_packet.PlainPacket.{PlainPacket}
-use Rattle.up_outside.specs.Counts.{CountsWhere}
+use Rattle.up_outside.specs.Counts.{CountsOnce}
 use Rattle.up_outside.specs.States.{SinkState}
 use Rattle.up_shape.specs.Outgoing.{Outgoing}
 use Rattle.up_strand.specs.AnyModule.{any_kind, AnyStands, has_module}
@@ -42,6 +42,11 @@ abbrev pub is_pipe : {K : Type 0} → Part K → Bool
 is_pipe (Pipe m) = true
 is_pipe part = false
 
+-- a sink that failed
+abbrev pub has_failed : {K : Type 0} → Part K → Bool
+has_failed (Sink sink failed) = failed
+has_failed part = false
+
 -- it can be given packets: its flow goes on, or it gives them up since memory ran out at it
 pub record IsTaking {P K : Type 0} (node : Node P K) : Type 0 where
   pub goes_on : is_whole node.part ≡ false
@@ -66,11 +71,12 @@ pub record HasGivenUp {P K : Type 0} (old new : Node P K) : Type 0 where
   pub kept : is_outlet old.part ≡ true → new.out ≡ old.out
   pub settled : is_outlet old.part ≡ false → new.out.packets ≡ []
 
--- it has the same input and takers, and is an outlet or not as it was
+-- it has the same input and takers, and is an outlet or not as it was; a sink that failed is the same
 pub record IsAsPlaced {P K : Type 0} (old new : Node P K) : Type 0 where
   pub input : new.input ≡ old.input
   pub takers : new.takers ≡ old.takers
   pub outlet : is_outlet new.part ≡ is_outlet old.part
+  pub stopped : has_failed old.part ≡ true → new.part ≡ old.part
 
 -- what is fixed of a node when its strand begins: the kind of its pipe, and the state of its sink,
 -- if it is one. An outlet is no pipe and has no kind.
@@ -97,7 +103,7 @@ pub record Holds {P : Type 0} (plain : P → PlainPacket) (short : Bool) (work :
 
 module _ {P K : Type 0} (plain : P → PlainPacket) (state : K → SinkState) where
   -- a part is of the kind of its seat and took this flow; a sink that failed, or at which memory
-  -- ran out, was given a prefix of its bytes
+  -- ran out, was given a prefix of its bytes, and one write of it failed at most
   abbrev pub PartStands : Seat → Bool → Part K → Flow → Type 0
   PartStands seat short Head fed = MatchOption seat.kind ⊥ (λ kind. is_source kind ≡ true)
   PartStands seat short (Pipe m) fed =
@@ -105,7 +111,7 @@ module _ {P K : Type 0} (plain : P → PlainPacket) (state : K → SinkState) wh
   PartStands seat short (Sink sink failed) fed =
       MatchOption seat.kind ⊥ IsRawSink
       × Receives seat.start (state sink) (not short && not failed) (joined fed)
-      × CountsWhere failed seat.start.faults (state sink).faults
+      × CountsOnce failed seat.start.faults (state sink).faults
   PartStands seat short Outlet fed = seat.kind ≡ None
   PartStands seat short (Ended whole) fed = MatchOption seat.kind ⊥ (λ kind. has_module kind ≡ true)
 

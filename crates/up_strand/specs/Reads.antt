@@ -3,7 +3,7 @@ use Rattle.std.specs.Prelude.{◌≡◌, ℕ, ◌+◌, ◌<◌, ◌≤◌, Bool,
 use Rattle.std.specs.Io.KnownBytes.{Consumes, IsAtEnd}
 use Rattle.up_model.specs.Packet.{plain as bare}
 use Rattle.up_model.specs.declared.plain_packet.PlainPacket.{PlainPacket}
-use Rattle.up_outside.specs.Counts.{CountsWhere}
+use Rattle.up_outside.specs.Counts.{CountsOnce}
 use Rattle.up_outside.specs.States.{SourceState}
 use Rattle.up_outside.specs.Told.{Then}
 use Rattle.up_strand.specs.declared.fill.Filled.{Filled}
@@ -28,7 +28,7 @@ is_fault stops.Fault = true
 pub record Fills (old new : SourceState) (room : List ℕ) (filled : Filled) : Type 0 where
   pub took : WereRead old new (take filled.count room) filled.count
   pub end : filled.stop ≡ stops.End → IsAtEnd new.left
-  pub faults : CountsWhere (is_fault filled.stop) old.faults new.faults
+  pub faults : CountsOnce (is_fault filled.stop) old.faults new.faults
 
 -- the answer is a fault of the source
 abbrev pub is_read_fault : {P : Type 0} → Next P → Bool
@@ -62,7 +62,7 @@ module _ {P : Type 0} (plain : P → PlainPacket) (block left : ℕ) where
     pub in_block : length taken ≤ block
     pub in_limit : length taken ≤ left + 1
     pub are : AreReadAs new.left taken next
-    pub faults : CountsWhere (is_read_fault next) old.faults new.faults
+    pub faults : CountsOnce (is_read_fault next) old.faults new.faults
 
 -- the packet is of the family
 abbrev pub NextFits : {P F : Type 0} → (P → F → Type 0) → F → Next P → Type 0

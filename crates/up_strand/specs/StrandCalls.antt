@@ -48,6 +48,8 @@ begun pipes head source sinks = record {
   head = head;
   source = source;
   sinks = sinks;
+  source_now = source;
+  sinks_now = sinks;
   read = [];
   came = [];
   fed = [];
@@ -117,7 +119,11 @@ module _ {P S K : Type 0} (plain : P → PlainPacket) (reads : S → SourceState
     pub ended : Option Outcome
     pub short : Bool
     pub failed : ℕ → Bool
+    pub source_now : Option SourceState
+    pub sinks_now : ℕ → SinkState
     pub stands : StandsFor plain reads writes strand (record h {
+      source_now = source_now;
+      sinks_now = sinks_now;
       read = h.read ++ read;
       came = h.came ++ came;
       fed = h.fed ++ fed;
@@ -126,6 +132,9 @@ module _ {P S K : Type 0} (plain : P → PlainPacket) (reads : S → SourceState
       failed = failed;
     })
     pub stays : h.short ≡ true → short ≡ true
+    -- a sink that failed isn't written again
+    pub stopped : (place : ℕ) → h.failed place ≡ true
+        → (failed place ≡ true) × (sinks_now place ≡ h.sinks_now place)
 
   -- the source gave a packet's worth of bytes, or its flow ended; what was fed was drawn of the
   -- store, and so was the room that was read into: without it nothing was read
@@ -145,6 +154,7 @@ module _ {P S K : Type 0} (plain : P → PlainPacket) (reads : S → SourceState
   pub record SteppedItem (strand : Strand P S K) (h : History) (item : Item P) : Type 0 where
     pub step : Stepped strand h (packets_in plain item)
     pub unread : step.read ≡ []
+    pub uncalled : step.source_now ≡ h.source_now
     pub ended : step.ended ≡ end_in item
 
   -- the item went out for the lane, whose end hadn't
@@ -167,21 +177,27 @@ module _ (h : History) (place : ℕ) (pipe : Pipe) where
   abbrev pub bytes_due : Doing → List ℕ
   bytes_due does = bytes_by does h.pipes (to_head h.head (head_flow h)) place pipe
 
-  -- the sink was given its bytes, or the first of them where it failed or memory ran out
+  -- the sink was given its bytes, or the first of them where it failed or memory ran out; one write
+  -- of it failed at most, and it is as the last step left it
   pub record SinkEnds (now : SinkState) : Type 0 where
     pub put : List ℕ
     pub appended : Appends (h.sinks place).written now.written put
     pub first : IsPrefix put (bytes_due (doing h.ended))
     pub all : h.short ≡ false → h.failed place ≡ false → put ≡ bytes_due (doing h.ended)
     pub faults : CountsWhere (h.failed place) (h.sinks place).faults now.faults
+    pub once : now.faults ≤ (h.sinks place).faults + 1
+    pub left : h.sinks_now place ≡ now
     pub same : IsSameSink (h.sinks place) now
 
--- the source gave the bytes that were read
+-- the source gave the bytes that were read; one read of it failed at most, and it is as the last
+-- step left it
 pub record SourceEnds (h : History) (now : SourceState) : Type 0 where
   pub start : SourceState
   pub told : h.source ≡ Some start
   pub took : WereRead start now h.read (length h.read)
   pub faults : CountsWhere (ended_at_fault h.ended) start.faults now.faults
+  pub once : now.faults ≤ start.faults + 1
+  pub left : h.source_now ≡ Some now
   pub whole : h.ended ≡ Some outcomes.Whole → IsAtEnd now.left
 
 module _ {S K : Type 0} (reads : S → SourceState) (writes : K → SinkState) where

@@ -14,11 +14,11 @@ use Rattle.up_model.specs.declared.outcome.Outcome.{Outcome}
 use Rattle.up_model.specs.declared.outcome.Outcome.TheVariants as outcomes
 use Rattle.up_model.specs.declared.pipe.Pipe.{Pipe}
 use Rattle.up_model.specs.declared.plain_packet.PlainPacket.{PlainPacket}
-use Rattle.up_outside.specs.Counts.{CountsWhere}
+use Rattle.up_outside.specs.Counts.{CountsOnce}
 use Rattle.up_outside.specs.States.{SourceState, SinkState}
 use Rattle.up_strand.specs.Gifts.{NodesFit}
 use Rattle.up_strand.specs.History.{History, head_flow, outcome_of_source, outcome_without}
-use Rattle.up_strand.specs.Nodes.{is_outlet, is_pipe, is_whole}
+use Rattle.up_strand.specs.Nodes.{has_failed, is_outlet, is_pipe, is_whole}
 use Rattle.up_strand.specs.OfGraph.{AreNodesOf}
 use Rattle.up_strand.specs.Reads.{WereRead}
 use Rattle.up_strand.specs.Rooms.{HasOnlyRoom}
@@ -32,11 +32,6 @@ use Rattle.up_strand.specs.declared.node.Part.TheVariants.{Head, Pipe as PipePar
 use Rattle.up_strand.specs.declared.strand.Strand.{Strand}
 use Rattle.up_strand.specs.declared.want.Want.{Want}
 use Rattle.up_strand.specs.declared.want.Want.TheVariants.{Read, Input, Output, Done}
-
--- a sink that failed
-abbrev pub has_failed : {K : Type 0} → Part K → Bool
-has_failed (Sink sink failed) = failed
-has_failed part = false
 
 -- the outcome of a pipe that does this part
 abbrev pub outcome_of_part : {K : Type 0} → Part K → Bool → Option Outcome → Outcome
@@ -167,12 +162,16 @@ module _ {P S K : Type 0} (strand : Strand P S K) where
         × (at < length strand.tree.nodes.items)
         × (nat_le (length (strand_of h.pipes h.head)) at ≡ true)
 
-  -- the sinks are those that it was made with, and those that failed are known
-  pub record IsWriting (h : History) (past : Past) : Type 0 where
+  -- the sinks are those that it was made with, and what they tell and which failed is known
+  pub record IsWriting (writes : K → SinkState) (h : History) (past : Past) : Type 0 where
     pub starts : (i : ℕ) (d : Node P K) (sink : K) (failed : Bool)
         → i < length strand.tree.nodes.items
         → (slice_index_or strand.tree.nodes.items i d).part ≡ Sink sink failed
         → (past.seats i).start ≡ h.sinks (place_of i)
+    pub now : (i : ℕ) (d : Node P K) (sink : K) (failed : Bool)
+        → i < length strand.tree.nodes.items
+        → (slice_index_or strand.tree.nodes.items i d).part ≡ Sink sink failed
+        → h.sinks_now (place_of i) ≡ writes sink
     pub failed : (place : ℕ) → h.failed place ≡ has_failed_at place
 
 -- a read failed
@@ -205,8 +204,9 @@ pub record IsReading (now : SourceState) (block limit left : ℕ) (h : History) 
   pub kind : pipe.kind ≡ kinds.Source path (Raw block) limit
   pub start : SourceState
   pub told : h.source ≡ Some start
+  pub told_now : h.source_now ≡ Some now
   pub took : WereRead start now h.read (length h.read)
-  pub faults : CountsWhere (ended_at_fault h.ended) start.faults now.faults
+  pub faults : CountsOnce (ended_at_fault h.ended) start.faults now.faults
   pub ends : EndsRightly limit now.left h h.ended
   pub rest : h.ended ≡ None → length h.read + left ≡ limit
   pub even : h.ended ≡ None → (count : ℕ) × (length h.read ≡ count * block)
@@ -228,6 +228,7 @@ IsEndOfLane (Some outcomes.NoMemory) = ⊥
 pub record IsBehindLane (h : History) : Type 0 where
   pub fed : passes_at is_fed h.pipes h.head ≡ true
   pub none : h.source ≡ None
+  pub none_now : h.source_now ≡ None
   pub alone : h.read ≡ []
   pub ends : IsEndOfLane h.ended
 
@@ -255,7 +256,7 @@ module _ {P S K : Type 0} (plain : P → PlainPacket) (reads : S → SourceState
     pub fed : IsFed strand.tree.nodes.items h past
     pub intake : IntakeStands reads strand.intake h
     pub sent : IsSent strand plain h past
-    pub writing : IsWriting strand h past
+    pub writing : IsWriting strand writes h past
 
   abbrev pub StandsForSome : Strand P S K → Type 0
   StandsForSome strand = (h : History) × StandsFor strand h

@@ -1,5 +1,5 @@
 // A strand that is made: all room first, then the nodes.
-ghost use Rattle.std.specs.Prelude.{◌≡◌, ℕ, ◌<◌, ◌≤◌, [], map, replicate, true, false, length, drop, IfOk, IfErr, is_some, slice_index_or, nat_le, Some, if◌then◌else◌};
+ghost use Rattle.std.specs.Prelude.{◌≡◌, ℕ, Bool, ◌<◌, ◌≤◌, [], map, replicate, true, false, length, drop, IfOk, IfErr, is_some, slice_index_or, nat_le, Some, if◌then◌else◌};
 ghost use Rattle.std.specs.List.{Contains, filter};
 ghost use Rattle.std.specs.Option.{option_map};
 ghost use Rattle.std.specs.Vec.{vec_capacity};
@@ -11,9 +11,10 @@ ghost use Rattle.up_model.specs.WellFormed.{IsWellFormed};
 ghost use Rattle.up_plan.specs.Plan.{plan_of};
 ghost use Rattle.up_outside.specs.States.{SinkState};
 ghost use Rattle.up_strand.specs.Making.{CanBegin, HasBegun, HasRoomFor, caught_at, is_sink_in, seat_in, sinks_in, told_in};
-ghost use Rattle.up_strand.specs.Nodes.{PartStands, Seat, has_ended, is_outlet};
+ghost use Rattle.up_strand.specs.Nodes.{PartStands, Seat, has_ended, has_failed, is_outlet};
 ghost use Rattle.up_strand.specs.StrandCalls.{begun, sinks_told};
-ghost use Rattle.up_strand.specs.Strands.{IntakeStands, StandsFor, StrandFits, has_failed};
+ghost use Rattle.up_strand.specs.Strands.{IntakeStands, StandsFor, StrandFits};
+ghost use Rattle.up_strand.specs.declared.node.Part.TheVariants as parts;
 
 use crate::any_module::AnyModule;
 use crate::closing::Told;
@@ -212,6 +213,8 @@ fn part_of<P: LocalPacket, K: Sink>(kind: &Kind, sinks: &mut SinkList<K>) -> Par
         → (is_sink kind.now ≡ true
         → (d : K) → seat.start ≡ K.state (slice_index_or sinks.old 0 d))
         → PartStands P.plain K.state seat false result [] }
+    ensures sink { (sink : K) (failed : Bool) → result ≡ parts.Sink sink failed
+        → (is_sink kind.now ≡ true) × ((d : K) → slice_index_or sinks.old 0 d ≡ sink) }
     ensures inner { is_outlet result ≡ false }
     ensures going { has_ended result ≡ false }
     ensures works { has_failed result ≡ false }
@@ -251,6 +254,9 @@ fn part_at<P: LocalPacket, K: Sink>(
         → (is_sink_in pipes.now shape.now i ≡ true → (d : K)
         → (seat_in pipes.now shape.now told i).start ≡ K.state (slice_index_or sinks.old 0 d))
         → PartStands P.plain K.state (seat_in pipes.now shape.now told i) false result [] }
+    ensures sink { (sink : K) (failed : Bool) → result ≡ parts.Sink sink failed
+        → (is_sink_in pipes.now shape.now i ≡ true)
+        × ((d : K) → slice_index_or sinks.old 0 d ≡ sink) }
     ensures outlet { is_outlet result ≡ nat_le shape.now.pipes i }
     ensures going { has_ended result ≡ false }
     ensures works { has_failed result ≡ false }

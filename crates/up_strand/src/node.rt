@@ -2,7 +2,7 @@
 ghost use Rattle.std.specs.Prelude.{◌≡◌, ◌++◌, All, [], ◌∷◌, not, ◌&&◌, true, false, ℕ, List, is_ok, IfSome, OnOk, OnErr};
 ghost use Rattle.up_model.specs.Kinds.{IsWithinBounds};
 ghost use Rattle.up_model.specs.Packet.{IsLegal};
-ghost use Rattle.up_outside.specs.Counts.{CountsWhere};
+ghost use Rattle.up_outside.specs.Counts.{CountsOnce};
 ghost use Rattle.up_outside.specs.States.{SinkState};
 ghost use Rattle.up_shape.specs.Stores.{Stays};
 ghost use Rattle.up_strand.specs.Nodes.{Seat, PartStands, NodeStands, IsTaking, IsSound, IsDone, HasGivenUp, IsAsPlaced, NodeFits, Took, has_ended, is_outlet, is_pipe, is_whole, takes_from};
@@ -293,8 +293,9 @@ fn write_unless_failed<P: LocalPacket, K: Sink>(
         → Receives start (K.state sink.old) (not failed.old) before
         → Receives start (K.state sink.new) (is_ok result && not failed.new)
         (before ++ (P.plain p.now).bytes) }
-    ensures faults { (before : ℕ) → CountsWhere failed.old before (K.state sink.old).faults
-        → CountsWhere failed.new before (K.state sink.new).faults }
+    ensures faults { (before : ℕ) → CountsOnce failed.old before (K.state sink.old).faults
+        → CountsOnce failed.new before (K.state sink.new).faults }
+    ensures stopped { failed.old ≡ true → (failed.new ≡ true) × (sink.new ≡ sink.old) }
 {
     if *failed {
         return Ok(());

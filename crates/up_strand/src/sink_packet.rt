@@ -1,5 +1,5 @@
 ghost use Rattle.std.specs.Prelude.{is_ok};
-ghost use Rattle.up_outside.specs.Counts.{CountsWhere, is_failed};
+ghost use Rattle.up_outside.specs.Counts.{CountsOnce, is_failed};
 ghost use Rattle.up_strand.specs.Writing.{Receives};
 
 use up_base::Refusal;
@@ -9,7 +9,7 @@ use up_shape::LocalPacket;
 /// Writes a piece by as many writes as it takes. After a refusal a prefix of it was written.
 fn drain<K: Sink>(sink: &mut K, piece: &[u8]) -> Result<(), Refusal>
     ensures bytes { Receives (K.state sink.old) (K.state sink.new) (is_ok result) piece.now }
-    ensures faults { CountsWhere (is_failed result)
+    ensures faults { CountsOnce (is_failed result)
         (K.state sink.old).faults (K.state sink.new).faults }
 {
     let mut count = 0;
@@ -27,7 +27,7 @@ fn drain<K: Sink>(sink: &mut K, piece: &[u8]) -> Result<(), Refusal>
 pub fn write_packet<P: LocalPacket, K: Sink>(p: &P, sink: &mut K) -> Result<(), Refusal>
     ensures bytes { Receives (K.state sink.old) (K.state sink.new)
         (is_ok result) (P.plain p.now).bytes }
-    ensures faults { CountsWhere (is_failed result)
+    ensures faults { CountsOnce (is_failed result)
         (K.state sink.old).faults (K.state sink.new).faults }
 {
     let size = p.size();

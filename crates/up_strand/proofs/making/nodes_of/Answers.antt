@@ -1,7 +1,8 @@
-use Rattle.std.proofs.Common.{◌≡◌, ℕ, drop, get_or, ap, sym, ◌∙◌, arith, rules, cond, None}
+use Rattle.std.proofs.Common.{◌≡◌, ℕ, Bool, drop, get_or, ap, sym, ◌∙◌, arith, rules, cond, None}
 use Rattle.std.proofs.lemmas.List.{drop-drop, get_or_default, length-drop}
 use Rattle.up_strand.proofs.Begun.{more_at, next_sink, node_begins, one_more, sink_waits, sinks_before}
-use Rattle.up_strand.specs.Making.{HasBegun, is_sink_in, told_in}
+use Rattle.up_strand.specs.Making.{HasBegun, is_sink_in, seat_in, told_in}
+use Rattle.up_strand.specs.declared.node.Part.TheVariants.{Sink}
 use Rattle.up_strand.proofs.making.nodes_of.Goals as goal
 
 pub part_at-part-requires-clause-sinks : goal.part_at-part-requires-clause-sinks
@@ -25,11 +26,14 @@ loop-i-preserved g c =
     let inputs = can.inputs in
     let takers = can.takers in
     let part_stands = c.part_at-part.ensures.stands told (λ is d. rw inv.rest ((next_sink pipes shape can state sinks i d c.requires.sinks is).1)) in
+    let start : (sink : g.row.K.Denot) (failed : Bool) → c.part_at-part.result ≡ Sink sink failed → (seat_in pipes shape told i).start ≡ state sink =
+    λ sink failed is. let first = c.part_at-part.ensures.sink sink failed is in
+    (next_sink pipes shape can state sinks i sink c.requires.sinks first.0).1 ∙ ap state (sym (ap (λ l. get_or l 0 sink) inv.rest) ∙ first.1 sink) in
     let input : c.index.result.now ≡ get_or shape.inputs.items i None =
     search (rules, get_or_default shape.inputs.items i c.index.result.now None (omega (arith, inputs, c.loop-i-test.true))) in
     let takers_here : c.index-in-loop-i.result.now ≡ get_or shape.takers.items i None =
     search (rules, get_or_default shape.takers.items i c.index-in-loop-i.result.now None (omega (arith, takers, c.loop-i-test.true))) in
-    let begins = node_begins pipes c.requires.well_formed shape told plain state i _ _ _ c.new.result c.new.ensures.made c.new.ensures.empty c.new.ensures.stands part_stands
+    let begins = node_begins pipes c.requires.well_formed shape told plain state i _ _ _ c.new.result c.new.ensures.made c.new.ensures.empty c.new.ensures.stands part_stands start
     input takers_here c.part_at-part.ensures.outlet c.part_at-part.ensures.going c.part_at-part.ensures.works in
     record {
       upto = search rules;

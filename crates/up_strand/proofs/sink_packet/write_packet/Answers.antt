@@ -19,5 +19,5 @@ loop-at-preserved g c =
       bytes = subst (Receives (state c.args.sink.now) (state c.drain.new.sink) true)
           (sym (run_more c.loop-at.at _ _ c.bytes_at-run.ensures.run))
           (receives_more _ _ _ _ _ _ so_far.bytes c.in-Ok.ensures.bytes);
-      faults = c.in-Ok.ensures.faults.stays refl ∙ so_far.faults;
+      faults = c.in-Ok.ensures.faults.counts.stays refl ∙ so_far.faults;
     }
