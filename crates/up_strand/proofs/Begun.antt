@@ -24,7 +24,8 @@ use Rattle.up_model.specs.declared.plain_packet.PlainPacket.{PlainPacket}
 use Rattle.up_outside.specs.Counts.{CountsOnce}
 use Rattle.up_outside.specs.States.{SinkState}
 use Rattle.up_strand.proofs.Writes.{receives_nothing}
-use Rattle.up_strand.specs.Making.{CanBegin, HasBegun, is_sink_in, node_place, own_in, seat_in, sinks_in, told_in}
+use Rattle.up_strand.specs.Making.{CanBegin, HasBegun, is_sink_in, node_place, own_in, seat_in, sink_places}
+use Rattle.up_strand.specs.StrandCalls.{told_of}
 use Rattle.up_strand.specs.Nodes.{NodeStands, PartStands, Seat, has_ended, has_failed, is_outlet}
 use Rattle.up_strand.specs.Shapes.{IsShapeOf, input_in}
 use Rattle.up_strand.specs.Writing.{Receives}
@@ -125,14 +126,14 @@ module _ (pipes : List Pipe) (shape : Shape) (can : CanBegin pipes shape) where
             rw (same, no_pipe) (omega arith)
       ]
 
-  pub all_before : (i : ℕ) → length shape.places.items ≤ i → sinks_before pipes shape i ≡ length (sinks_in pipes shape)
+  pub all_before : (i : ℕ) → length shape.places.items ≤ i → sinks_before pipes shape i ≡ length (sink_places pipes shape)
   all_before i past =
       let same : take i (own_in shape) ≡ take (length (own_in shape)) (own_in shape) =
       take_past i (length (own_in shape)) (own_in shape) (let upto = can.pipes_of in omega (arith, own_length)) (omega arith) in
       ap (λ own. length (filter (passes_at ends_at_sink pipes) own)) (same ∙ take-length (own_in shape))
 
   -- before a node of a sink there is one more
-  pub sink_waits : {K : Type 0} (sinks : List K) (i : ℕ) → length sinks ≡ length (sinks_in pipes shape) → is_sink_in pipes shape i ≡ true
+  pub sink_waits : {K : Type 0} (sinks : List K) (i : ℕ) → length sinks ≡ length (sink_places pipes shape) → is_sink_in pipes shape i ≡ true
       → sinks_before pipes shape i < length sinks
   sink_waits sinks i count is =
       elim (cases_lt i shape.pipes) [
@@ -148,9 +149,9 @@ module _ (pipes : List Pipe) (shape : Shape) (can : CanBegin pipes shape) where
       ]
 
   -- the next sink is that of the next node of a sink
-  pub next_sink : {K : Type 0} (state : K → SinkState) (sinks : List K) (i : ℕ) (d : K) → length sinks ≡ length (sinks_in pipes shape)
+  pub next_sink : {K : Type 0} (state : K → SinkState) (sinks : List K) (i : ℕ) (d : K) → length sinks ≡ length (sink_places pipes shape)
       → is_sink_in pipes shape i ≡ true
-      → (sinks_before pipes shape i < length sinks) × ((seat_in pipes shape (told_in pipes shape state sinks) i).start ≡ state (get_or (drop (sinks_before pipes shape i) sinks) 0 d))
+      → (sinks_before pipes shape i < length sinks) × ((seat_in pipes shape (told_of state (sink_places pipes shape) sinks) i).start ≡ state (get_or (drop (sinks_before pipes shape i) sinks) 0 d))
   next_sink state sinks i d count is =
       elim (cases_lt i shape.pipes) [
         | inl below ↦
@@ -164,7 +165,7 @@ module _ (pipes : List Pipe) (shape : Shape) (can : CanBegin pipes shape) where
             let one : j ≡ i = can.apart j i (omega arith) (omega arith) (sym (own_place j (omega arith)) ∙ same ∙ here) in
             omega arith in
             let place = place_of_passing (passes_at ends_at_sink pipes) (own_in shape) i within passes apart in
-            let place_here : position_or_len (λ other. other == node_place shape i) (sinks_in pipes shape) ≡ sinks_before pipes shape i = rw here at place in
+            let place_here : position_or_len (λ other. other == node_place shape i) (sink_places pipes shape) ≡ sinks_before pipes shape i = rw here at place in
             let inside : sinks_before pipes shape i < length sinks = omega (arith, less, count) in
             let item : get_or (drop (sinks_before pipes shape i) sinks) 0 d ≡ get_or sinks (sinks_before pipes shape i) d =
             get_or-drop (sinks_before pipes shape i) sinks 0 d ∙ ap (λ k. get_or sinks k d) (let n : sinks_before pipes shape i + 0 ≡ sinks_before pipes shape i = omega arith in n) in

@@ -26,12 +26,12 @@ use Rattle.up_outside.specs.States.{SourceState, SinkState}
 use Rattle.up_strand.proofs.Begun.{one_plus, own_is}
 use Rattle.up_strand.proofs.Reaching.{same_kind}
 use Rattle.up_strand.specs.History.{head_flow}
-use Rattle.up_strand.specs.Making.{CanBegin, HasBegun, caught_at, node_place, seat_in, told_in}
+use Rattle.up_strand.specs.Making.{CanBegin, HasBegun, caught_at, node_place, seat_in, sink_places}
 use Rattle.up_strand.specs.Nodes.{has_ended, has_failed, is_outlet, is_whole, takes_from}
 use Rattle.up_strand.specs.OfGraph.{AreNodesOf, IsInputOf}
 use Rattle.up_strand.specs.Shapes.{AreTakersIn, IsInputIn, IsShapeOf, input_in}
 use Rattle.up_strand.specs.Stand.{Past, Stand}
-use Rattle.up_strand.specs.StrandCalls.{begun, no_sink, sinks_told}
+use Rattle.up_strand.specs.StrandCalls.{begun, no_sink, sinks_told, told_of}
 use Rattle.up_strand.specs.Strands.{IntakeStands, IsAsEnded, IsBuilt, IsSent, IsWriting, HasRooms, StandsFor, has_item, item_waits, kept_at, node_of, place_of}
 use Rattle.up_strand.specs.Tree.{AreTakers, IsSwept, IsTree}
 use Rattle.up_strand.specs.declared.node.Node.{Node}
@@ -70,7 +70,7 @@ can_begin pipes head shape is = record {
 
 -- what its sinks told
 pub told_is : {K : Type 0} (writes : K → SinkState) (pipes : List Pipe) (head : ℕ) (shape : Shape) (sinks : List K) → IsShapeOf pipes head shape
-    → told_in pipes shape writes sinks ≡ sinks_told writes pipes head sinks
+    → told_of writes (sink_places pipes shape) sinks ≡ sinks_told writes pipes head sinks
 told_is writes pipes head shape sinks is =
     let told : List ℕ → ℕ → SinkState = λ own place. option_map_or writes
     (option_and_then (slice_get sinks) (position (λ other. other == place) (filter (passes_at ends_at_sink pipes) own))) no_sink in
@@ -295,13 +295,15 @@ module _ {P S K : Type 0} (plain : P → PlainPacket) (reads : S → SourceState
     made_ended = record {
       ended = made.ended;
       short = made.long;
-      settled = λ i d within inner. (made.each i d within).empty;
-      going = λ long going i d within. (made.each i d within).sound;
-      done = λ long wrong. absurd (cc);
-      broken = λ long outcome wrong. absurd (cc);
-      gone = λ either. elim either [ inl wrong ↦ absurd (cc) | inr wrong ↦ absurd (cc) ];
-      fallen = λ wrong. absurd (cc);
-      owed = λ unended i d within. not_whole (get_or strand.tree.nodes.items i d).part (made.each i d within).sound.going;
+      nodes = record {
+        settled = λ i d within inner. (made.each i d within).empty;
+        going = λ long going i d within. (made.each i d within).sound;
+        done = λ long wrong. absurd (cc);
+        broken = λ long outcome wrong. absurd (cc);
+        gone = λ either. elim either [ inl wrong ↦ absurd (cc) | inr wrong ↦ absurd (cc) ];
+        fallen = λ wrong. absurd (cc);
+        owed = λ unended i d within. not_whole (get_or strand.tree.nodes.items i d).part (made.each i d within).sound.going;
+      };
     }
 
     kept_none : (i : ℕ) → kept_at strand i ≡ []

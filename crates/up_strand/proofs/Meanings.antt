@@ -155,7 +155,7 @@ module _ {P S K : Type 0} (plain : P → PlainPacket) (reads : S → SourceState
 
   part_begins : h.ended ≢ Some Whole → Begins so_far
   part_begins other_than =
-      let owed = stands.ended.owed other_than in
+      let owed = stands.ended.nodes.owed other_than in
       record {
         reached = reaching.reached_in_part plain writes so_far h.pipes place given nodes stands.past stands.built.swept.rank stands.built.swept.tree stands.stand stands.built.are
             (λ i d within kind taken bounds first. rw (owed i d within) (reaching.settled_first (place i) kind (stands.past.fed i) taken bounds first))
@@ -189,10 +189,10 @@ module _ {P S K : Type 0} (plain : P → PlainPacket) (reads : S → SourceState
   unfinished_comes : h.short ≡ false → AllAt IsUnfinished nodes → Comes so_far
   unfinished_comes long unfinished = record {
     long = λ i d within. (unfinished i d within).long;
-    reached = reaching.reached plain writes false h.pipes place given nodes stands.past stands.built.swept.rank stands.built.swept.tree stands.stand stands.built.are stands.ended.settled
+    reached = reaching.reached plain writes false h.pipes place given nodes stands.past stands.built.swept.rank stands.built.swept.tree stands.stand stands.built.are stands.ended.nodes.settled
         (λ i d within. (unfinished i d within).long) (λ i d within inner. rw (unfinished i d within).part refl)
         (are_fed so_far (λ took takes. took ≡ takes) (stands.fed.all long));
-    bytes = reaching.bytes_are plain writes false h.pipes place given nodes stands.past stands.built.swept.rank stands.built.swept.tree stands.stand stands.built.are stands.ended.settled
+    bytes = reaching.bytes_are plain writes false h.pipes place given nodes stands.past stands.built.swept.rank stands.built.swept.tree stands.stand stands.built.are stands.ended.nodes.settled
         (λ i d within. (unfinished i d within).long) (λ i d within inner. rw (unfinished i d within).part refl)
         (are_fed so_far (λ took takes. took ≡ takes) (stands.fed.all long));
   }
@@ -205,19 +205,19 @@ module _ {P S K : Type 0} (plain : P → PlainPacket) (reads : S → SourceState
       (done i d within).ended (done i d within).whole (stands.stand.node i d within).part in
       record {
         long = λ i d within. (done i d within).long;
-        reached = reaching.reached plain writes true h.pipes place given nodes stands.past stands.built.swept.rank stands.built.swept.tree stands.stand stands.built.are stands.ended.settled
+        reached = reaching.reached plain writes true h.pipes place given nodes stands.past stands.built.swept.rank stands.built.swept.tree stands.stand stands.built.are stands.ended.nodes.settled
             (λ i d within. (done i d within).long) works (are_fed wholly (λ took takes. took ≡ takes) (stands.fed.all long));
-        bytes = reaching.bytes_are plain writes true h.pipes place given nodes stands.past stands.built.swept.rank stands.built.swept.tree stands.stand stands.built.are stands.ended.settled
+        bytes = reaching.bytes_are plain writes true h.pipes place given nodes stands.past stands.built.swept.rank stands.built.swept.tree stands.stand stands.built.are stands.ended.nodes.settled
             (λ i d within. (done i d within).long) works (are_fed wholly (λ took takes. took ≡ takes) (stands.fed.all long));
       }
 
   broken_comes : (outcome : Outcome) → h.short ≡ false → h.ended ≡ Some outcome → outcome ≢ Whole → Comes so_far
-  broken_comes outcome long is other_than = unfinished_comes long (stands.ended.broken long outcome is other_than)
+  broken_comes outcome long is other_than = unfinished_comes long (stands.ended.nodes.broken long outcome is other_than)
 
   comes_by : (ended : Option Outcome) → h.short ≡ false → h.ended ≡ ended → Comes (doing ended)
   comes_by None long is = unfinished_comes long
-      (λ i d within. let sound = stands.ended.going long is i d within in record { long = sound.long; part = reaching.whole_as_sound plain writes _ sound.going })
-  comes_by (Some Whole) long is = done_comes long (stands.ended.done long is)
+      (λ i d within. let sound = stands.ended.nodes.going long is i d within in record { long = sound.long; part = reaching.whole_as_sound plain writes _ sound.going })
+  comes_by (Some Whole) long is = done_comes long (stands.ended.nodes.done long is)
   comes_by (Some ReadFault) long is = broken_comes ReadFault long is (λ same. cc)
   comes_by (Some WriteFault) long is = broken_comes WriteFault long is (λ same. cc)
   comes_by (Some (TooLong limit)) long is = broken_comes (TooLong limit) long is (λ same. cc)

@@ -153,29 +153,31 @@ module _ {P S K : Type 0} (plain : P → PlainPacket) (reads : S → SourceState
 
   ended_so : IsAsEnded (moved old given) (taken_so h sent closed)
   ended_so =
-      let e = stands.ended in
+      let e = stands.ended.nodes in
       record {
-        ended = e.ended;
-        short = e.short;
-        settled = λ i d within inner.
-            let inner_old = ap is_outlet (sym (part_same olds news alike i d)) ∙ inner in
-            ap (λ (n : Node P K). n.out.packets) (alike.inner i d inner_old) ∙ e.settled i d (inside i within) inner_old;
-        going = λ long none i d within.
-            let sound = e.going long none i d (inside i within) in
-            record { long = short_same olds news alike i d ∙ sound.long; going = ap has_ended (part_same olds news alike i d) ∙ sound.going };
-        done = λ long whole i d within.
-            let done = e.done long whole i d (inside i within) in
-            record {
-              long = short_same olds news alike i d ∙ done.long;
-              ended = ap is_pipe (part_same olds news alike i d) ∙ done.ended;
-              whole = ap has_ended (part_same olds news alike i d) ∙ done.whole ∙ ap is_whole (sym (part_same olds news alike i d));
-            };
-        broken = λ long outcome is other i d within.
-            let broken = e.broken long outcome is other i d (inside i within) in
-            record { long = short_same olds news alike i d ∙ broken.long; part = ap is_whole (part_same olds news alike i d) ∙ broken.part };
-        gone = λ over i d within. ap is_pipe (part_same olds news alike i d) ∙ e.gone over i d (inside i within);
-        fallen = λ short i d within. short_same olds news alike i d ∙ e.fallen short i d (inside i within);
-        owed = λ other i d within. ap is_whole (part_same olds news alike i d) ∙ e.owed other i d (inside i within);
+        ended = stands.ended.ended;
+        short = stands.ended.short;
+        nodes = record {
+          settled = λ i d within inner.
+              let inner_old = ap is_outlet (sym (part_same olds news alike i d)) ∙ inner in
+              ap (λ (n : Node P K). n.out.packets) (alike.inner i d inner_old) ∙ e.settled i d (inside i within) inner_old;
+          going = λ long none i d within.
+              let sound = e.going long none i d (inside i within) in
+              record { long = short_same olds news alike i d ∙ sound.long; going = ap has_ended (part_same olds news alike i d) ∙ sound.going };
+          done = λ long whole i d within.
+              let done = e.done long whole i d (inside i within) in
+              record {
+                long = short_same olds news alike i d ∙ done.long;
+                ended = ap is_pipe (part_same olds news alike i d) ∙ done.ended;
+                whole = ap has_ended (part_same olds news alike i d) ∙ done.whole ∙ ap is_whole (sym (part_same olds news alike i d));
+              };
+          broken = λ long outcome is other i d within.
+              let broken = e.broken long outcome is other i d (inside i within) in
+              record { long = short_same olds news alike i d ∙ broken.long; part = ap is_whole (part_same olds news alike i d) ∙ broken.part };
+          gone = λ over i d within. ap is_pipe (part_same olds news alike i d) ∙ e.gone over i d (inside i within);
+          fallen = λ short i d within. short_same olds news alike i d ∙ e.fallen short i d (inside i within);
+          owed = λ other i d within. ap is_whole (part_same olds news alike i d) ∙ e.owed other i d (inside i within);
+        };
       }
 
   -- it stands for the history with these items, where its nodes do, and what has left for lanes is what was taken out

@@ -307,30 +307,14 @@ module _ {P S K : Type 0} (plain : P → PlainPacket) (reads : S → SourceState
       (record {
         ended = refl;
         short = refl;
-        settled = are.settled;
-        going = are.going;
-        done = are.done;
-        broken = are.broken;
-        gone = are.gone;
-        fallen = are.fallen;
-        owed = are.owed;
+        nodes = are;
       })
       fed_so.0 fed_so.1 intake_stands
 
 -- how the nodes of a strand are that goes on
 pub tree_is : {P S K : Type 0} (plain : P → PlainPacket) (reads : S → SourceState) (writes : K → SinkState) (strand : Strand P S K) (h : History)
     → StandsFor plain reads writes strand h → h.ended ≡ None → TreeIs strand.tree None
-tree_is plain reads writes strand h stood going =
-    let was = stood.ended in
-    record {
-      settled = was.settled;
-      going = λ long none. was.going (sym was.short ∙ long) going;
-      done = λ long wrong. absurd (cc);
-      broken = λ long outcome wrong. absurd (cc);
-      gone = λ either. elim either [ inl short ↦ was.gone (inl (sym was.short ∙ short)) | inr wrong ↦ absurd (cc) ];
-      fallen = λ short. was.fallen (sym was.short ∙ short);
-      owed = λ other. was.owed (λ is. let wrong : None ≡ Some outcomes.Whole = sym going ∙ is in absurd (cc));
-    }
+tree_is plain reads writes strand h stood going = rw (stood.ended.short) (rw going at stood.ended.nodes)
 
 -- its tree goes on then
 pub tree_going : {P S K F : Type 0} (plain : P → PlainPacket) (reads : S → SourceState) (writes : K → SinkState) (fits : P → F → Type 0) (family : F)

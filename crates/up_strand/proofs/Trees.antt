@@ -11,8 +11,8 @@ use Rattle.up_strand.proofs.Lists.{pairs_on}
 use Rattle.up_strand.proofs.Passing.{stand_on}
 use Rattle.up_strand.proofs.Sweeping.{swept_on}
 use Rattle.up_strand.specs.Nodes.{HasGivenUp, IsAsPlaced, is_pipe, is_whole}
-use Rattle.up_strand.specs.Stand.{AreAsPlaced, AreDone, AreSame, AreSettled, AreSound, AreTaking, StandForSome}
-use Rattle.up_strand.specs.Steps.{IsGoing, NodesAre, TreeTook, WentOn, ended_where}
+use Rattle.up_strand.specs.Stand.{AreAsPlaced, AreDone, AreSame, AreSettled, AreSound, AreTaking, NodesAre, StandForSome}
+use Rattle.up_strand.specs.Steps.{IsGoing, TreeTook, WentOn, ended_where}
 use Rattle.up_strand.specs.Tree.{AllAt, IsSwept, Pairwise}
 use Rattle.up_strand.specs.declared.node.Node.{Node}
 use Rattle.up_strand.specs.declared.tree.Tree.{Tree}

@@ -1,6 +1,6 @@
 -- A strand that is made: its room, and its nodes, which took nothing.
-use Rattle.std.specs.Prelude.{◌≡◌, ℕ, ◌<◌, ◌≤◌, ◌==◌, ◌&&◌, List, [], length, map, take, slice_get, slice_index_or, Bool, false, nat_le, nat_lt, None, option_map, option_and_then, if◌then◌else◌}
-use Rattle.std.specs.List.{filter, position}
+use Rattle.std.specs.Prelude.{◌≡◌, ℕ, ◌<◌, ◌≤◌, ◌&&◌, List, [], length, map, take, slice_get, slice_index_or, Bool, false, nat_le, nat_lt, None, option_map, if◌then◌else◌}
+use Rattle.std.specs.List.{filter}
 use Rattle.std.specs.Option.{option_map_or}
 use Rattle.std.specs.Vec.{vec_capacity}
 use Rattle.up_model.specs.Inputs.{passes_at}
@@ -35,14 +35,9 @@ abbrev pub own_in : Shape → List ℕ
 own_in shape = take shape.pipes shape.places.items
 
 module _ (pipes : List Pipe) (shape : Shape) where
-  -- the sinks, in file order
-  abbrev pub sinks_in : List ℕ
-  sinks_in = filter (passes_at ends_at_sink pipes) (own_in shape)
-
-  -- by the place of its pipe, what each of these sinks told
-  abbrev pub told_in : {K : Type 0} → (K → SinkState) → List K → ℕ → SinkState
-  told_in writes sinks place = option_map_or writes
-      (option_and_then (slice_get sinks) (position (λ other. other == place) sinks_in)) no_sink
+  -- the places of the sinks, in file order
+  abbrev pub sink_places : List ℕ
+  sink_places = filter (passes_at ends_at_sink pipes) (own_in shape)
 
   -- the node is a sink's
   abbrev pub is_sink_in : ℕ → Bool

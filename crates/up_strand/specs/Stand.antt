@@ -1,9 +1,11 @@
 -- What the nodes of a strand stand for together.
-use Rattle.std.specs.Prelude.{◌≡◌, ℕ, ◌<◌, List, [], ◌++◌, length, slice_index_or, true, false, Bool, None, ◌≢◌, ◌⊎◌}
+use Rattle.std.specs.Prelude.{◌≡◌, ℕ, ◌<◌, List, [], ◌++◌, length, slice_index_or, true, false, Bool, is_some, Option, Some, None, ◌≢◌, ◌⊎◌}
 use Rattle.up_model.specs.Packet.{Flow}
+use Rattle.up_model.specs.declared.outcome.Outcome.{Outcome}
+use Rattle.up_model.specs.declared.outcome.Outcome.TheVariants as outcomes
 use Rattle.up_model.specs.declared.plain_packet.PlainPacket.{PlainPacket}
 use Rattle.up_outside.specs.States.{SinkState}
-use Rattle.up_strand.specs.Nodes.{IsTaking, IsSound, IsDone, IsAsPlaced, Seat, NodeStands, is_outlet, is_whole, takes_from}
+use Rattle.up_strand.specs.Nodes.{IsTaking, IsSound, IsDone, IsAsPlaced, Seat, NodeStands, is_outlet, is_pipe, is_whole, takes_from}
 use Rattle.up_strand.specs.Tree.{AllAt, Pairwise}
 use Rattle.up_strand.specs.declared.node.Node.{Node}
 
@@ -101,3 +103,19 @@ IsSettledAt {P} {K} place nodes = (d : Node P K) → IsSettled (slice_index_or n
 
 abbrev pub AreSettled : {P K : Type 0} → List (Node P K) → Type 0
 AreSettled nodes = AllAt IsSettled nodes
+
+-- how nodes are whose flow goes on or has ended so, by whether memory ran out: nothing waits but
+-- for lanes
+pub record NodesAre {P K : Type 0} (short : Bool) (ended : Option Outcome)
+    (nodes : List (Node P K)) : Type 0 where
+  pub settled : AreSettled nodes
+  pub going : short ≡ false → ended ≡ None → AreSound nodes
+  pub done : short ≡ false → ended ≡ Some outcomes.Whole → AreDone nodes
+  pub broken : short ≡ false → (outcome : Outcome) → ended ≡ Some outcome
+      → outcome ≢ outcomes.Whole → AllAt IsUnfinished nodes
+  -- modules are gone once the flow has ended or memory ran out
+  pub gone : (short ≡ true) ⊎ (is_some ended ≡ true)
+      → AllAt (λ node. is_pipe node.part ≡ false) nodes
+  pub fallen : short ≡ true → AllAt (λ node. node.short ≡ true) nodes
+  -- what they owed was put out at a whole end alone
+  pub owed : ended ≢ Some outcomes.Whole → AllAt (λ node. is_whole node.part ≡ false) nodes

@@ -1,5 +1,5 @@
 -- What the parts of a step of a strand do.
-use Rattle.std.specs.Prelude.{◌≡◌, ◌≢◌, ◌⊎◌, ℕ, ◌<◌, List, [], ◌∷◌, length, Bool, true, false, is_some, Option, Some, None}
+use Rattle.std.specs.Prelude.{◌≡◌, ℕ, ◌<◌, List, [], ◌∷◌, length, Bool, true, false, Option, Some, None}
 use Rattle.std.specs.Option.{option_map_or}
 use Rattle.up_model.specs.Packet.{Flow}
 use Rattle.up_model.specs.declared.outcome.Outcome.{Outcome}
@@ -7,26 +7,12 @@ use Rattle.up_model.specs.declared.outcome.Outcome.TheVariants as outcomes
 use Rattle.up_model.specs.declared.plain_packet.PlainPacket.{PlainPacket}
 use Rattle.up_outside.specs.States.{SinkState}
 use Rattle.up_strand.specs.Gifts.{NodesFit}
-use Rattle.up_strand.specs.Nodes.{is_pipe, is_whole}
-use Rattle.up_strand.specs.Stand.{StandForSome, StandWith, AreAsPlaced, AreDone, AreSettled, AreSound, IsUnfinished}
+use Rattle.up_strand.specs.Stand.{NodesAre, StandForSome, StandWith, AreAsPlaced}
 use Rattle.up_strand.specs.Strands.{first_ready}
-use Rattle.up_strand.specs.Tree.{AllAt, IsSwept}
+use Rattle.up_strand.specs.Tree.{IsSwept}
 use Rattle.up_strand.specs.declared.node.Node.{Node}
 use Rattle.up_strand.specs.declared.strand.Strand.{Strand}
 use Rattle.up_strand.specs.declared.tree.Tree.{Tree}
-
--- how nodes are whose flow goes on or has ended so, by whether memory ran out
-pub record NodesAre {P K : Type 0} (short : Bool) (ended : Option Outcome)
-    (nodes : List (Node P K)) : Type 0 where
-  pub settled : AreSettled nodes
-  pub going : short ≡ false → ended ≡ None → AreSound nodes
-  pub done : short ≡ false → ended ≡ Some outcomes.Whole → AreDone nodes
-  pub broken : short ≡ false → (outcome : Outcome) → ended ≡ Some outcome
-      → outcome ≢ outcomes.Whole → AllAt IsUnfinished nodes
-  pub gone : (short ≡ true) ⊎ (is_some ended ≡ true)
-      → AllAt (λ node. is_pipe node.part ≡ false) nodes
-  pub fallen : short ≡ true → AllAt (λ node. node.short ≡ true) nodes
-  pub owed : ended ≢ Some outcomes.Whole → AllAt (λ node. is_whole node.part ≡ false) nodes
 
 abbrev pub TreeIs : {P K : Type 0} → Tree P K → Option Outcome → Type 0
 TreeIs tree ended = NodesAre tree.short ended tree.nodes.items

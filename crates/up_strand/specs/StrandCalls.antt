@@ -35,11 +35,14 @@ use Rattle.up_strand.specs.declared.want.Want.TheVariants.{Read, Input, Output, 
 abbrev pub no_sink : SinkState
 no_sink = record { written = None; place = None; moved = None; faults = 0 }
 
--- by the place of its pipe, what each of these sinks told, which are those of the strand of the
--- head
+-- by the place of its pipe, what each of these sinks told, which stand at these places
+abbrev pub told_of : {K : Type 0} → (K → SinkState) → List ℕ → List K → ℕ → SinkState
+told_of writes places sinks place = option_map_or writes
+    (option_and_then (slice_get sinks) (position (λ other. other == place) places)) no_sink
+
+-- the same of those of the strand of the head
 abbrev pub sinks_told : {K : Type 0} → (K → SinkState) → List Pipe → ℕ → List K → ℕ → SinkState
-sinks_told writes pipes head sinks place = option_map_or writes (option_and_then (slice_get sinks)
-    (position (λ other. other == place) (sinks_of pipes head))) no_sink
+sinks_told writes pipes head sinks = told_of writes (sinks_of pipes head) sinks
 
 -- nothing was done yet
 abbrev pub begun : List Pipe → ℕ → Option SourceState → (ℕ → SinkState) → History

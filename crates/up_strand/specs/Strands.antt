@@ -1,5 +1,5 @@
 -- What a strand stands for: what it did since it was made.
-use Rattle.std.specs.Prelude.{◌≡◌, ◌≢◌, ◌⊎◌, ℕ, ◌+◌, ◌*◌, ◌<◌, ◌≤◌, ◌==◌, ◌++◌, ◌&&◌, ◌||◌, List, [], length, map, slice_get, slice_index_or, Bool, true, false, not, is_some, Option, Some, None, MatchOption, nat_le, nat_lt, option_and_then, if◌then◌else◌}
+use Rattle.std.specs.Prelude.{◌≡◌, ℕ, ◌+◌, ◌*◌, ◌<◌, ◌≤◌, ◌==◌, ◌++◌, ◌&&◌, ◌||◌, List, [], length, map, slice_get, slice_index_or, Bool, true, false, not, is_some, Option, Some, None, MatchOption, nat_le, nat_lt, option_and_then, if◌then◌else◌}
 use Rattle.std.specs.List.{Contains, range_with_len, position}
 use Rattle.std.specs.Option.{option_map_or, option_to_list}
 use Rattle.std.specs.Io.KnownBytes.{IsAtEnd}
@@ -18,12 +18,12 @@ use Rattle.up_outside.specs.Counts.{CountsOnce}
 use Rattle.up_outside.specs.States.{SourceState, SinkState}
 use Rattle.up_strand.specs.Gifts.{NodesFit}
 use Rattle.up_strand.specs.History.{History, head_flow, outcome_of_source, outcome_without}
-use Rattle.up_strand.specs.Nodes.{has_failed, is_outlet, is_pipe, is_whole}
+use Rattle.up_strand.specs.Nodes.{has_failed, is_outlet}
 use Rattle.up_strand.specs.OfGraph.{AreNodesOf}
 use Rattle.up_strand.specs.Reads.{WereRead}
 use Rattle.up_strand.specs.Rooms.{HasOnlyRoom}
-use Rattle.up_strand.specs.Stand.{Past, Stand, AreSound, AreDone, AreSettled, IsUnfinished}
-use Rattle.up_strand.specs.Tree.{AllAt, IsSwept}
+use Rattle.up_strand.specs.Stand.{NodesAre, Past, Stand}
+use Rattle.up_strand.specs.Tree.{IsSwept}
 use Rattle.up_strand.specs.declared.intake.Intake.{Intake}
 use Rattle.up_strand.specs.declared.intake.Intake.TheVariants.{FromSource, FromLane}
 use Rattle.up_strand.specs.declared.node.Node.{Node}
@@ -119,23 +119,11 @@ module _ {P S K : Type 0} (strand : Strand P S K) where
   HasRooms h =
       HasOnlyRoom (length (strand_of h.pipes h.head)) (length (sinks_of h.pipes h.head)) strand.told
 
-  -- nothing waits but for lanes; which nodes go on, by how the flow ended and whether memory ran
-  -- out
+  -- its nodes are as the flow of its head ended, and as memory ran out
   pub record IsAsEnded (h : History) : Type 0 where
     pub ended : strand.ended ≡ h.ended
     pub short : strand.tree.short ≡ h.short
-    pub settled : AreSettled strand.tree.nodes.items
-    pub going : h.short ≡ false → h.ended ≡ None → AreSound strand.tree.nodes.items
-    pub done : h.short ≡ false → h.ended ≡ Some outcomes.Whole → AreDone strand.tree.nodes.items
-    pub broken : h.short ≡ false → (outcome : Outcome) → h.ended ≡ Some outcome
-        → outcome ≢ outcomes.Whole → AllAt IsUnfinished strand.tree.nodes.items
-    -- modules are gone once the flow has ended or memory ran out
-    pub gone : (h.short ≡ true) ⊎ (is_some h.ended ≡ true)
-        → AllAt (λ node. is_pipe node.part ≡ false) strand.tree.nodes.items
-    pub fallen : h.short ≡ true → AllAt (λ node. node.short ≡ true) strand.tree.nodes.items
-    -- what they owed was put out at a whole end alone
-    pub owed : h.ended ≢ Some outcomes.Whole
-        → AllAt (λ node. is_whole node.part ≡ false) strand.tree.nodes.items
+    pub nodes : NodesAre h.short h.ended strand.tree.nodes.items
 
   -- what has left for lanes is what was taken out, but for the packet that came back
   pub record IsSent (plain : P → PlainPacket) (h : History) (past : Past) : Type 0 where

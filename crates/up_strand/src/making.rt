@@ -10,9 +10,9 @@ ghost use Rattle.up_model.specs.Plans.{ends_at_sink, heads, sinks_of};
 ghost use Rattle.up_model.specs.WellFormed.{IsWellFormed};
 ghost use Rattle.up_plan.specs.Plan.{plan_of};
 ghost use Rattle.up_outside.specs.States.{SinkState};
-ghost use Rattle.up_strand.specs.Making.{CanBegin, HasBegun, HasRoomFor, caught_at, is_sink_in, seat_in, sinks_in, told_in};
+ghost use Rattle.up_strand.specs.Making.{CanBegin, HasBegun, HasRoomFor, caught_at, is_sink_in, seat_in, sink_places};
 ghost use Rattle.up_strand.specs.Nodes.{PartStands, Seat, has_ended, has_failed, is_outlet};
-ghost use Rattle.up_strand.specs.StrandCalls.{begun, sinks_told};
+ghost use Rattle.up_strand.specs.StrandCalls.{begun, sinks_told, told_of};
 ghost use Rattle.up_strand.specs.Strands.{IntakeStands, StandsFor, StrandFits};
 ghost use Rattle.up_strand.specs.declared.node.Part.TheVariants as parts;
 
@@ -280,11 +280,11 @@ fn nodes_of<P: LocalPacket, K: Sink>(
     requires shape { CanBegin pipes.now shape.now }
     requires empty { nodes.items ≡ [] }
     requires room { length shape.now.places.items ≤ vec_capacity nodes }
-    requires sinks { length sinks ≡ length (sinks_in pipes.now shape.now) }
+    requires sinks { length sinks ≡ length (sink_places pipes.now shape.now) }
     ensures count { length result.items ≡ length shape.now.places.items }
     ensures begun { (i : ℕ) (d : Node P K) → i < length result.items
         → HasBegun pipes.now shape.now P.plain K.state
-        (told_in pipes.now shape.now K.state sinks) i (slice_index_or result.items i d) }
+        (told_of K.state (sink_places pipes.now shape.now) sinks) i (slice_index_or result.items i d) }
 {
     for i in 0..shape.places.len() {
         let part = part_at::<P, K>(pipes, shape, i, &mut sinks);

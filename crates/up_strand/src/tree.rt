@@ -5,8 +5,8 @@ ghost use Rattle.up_model.specs.declared.outcome.Outcome.{Outcome};
 ghost use Rattle.up_model.specs.declared.outcome.Outcome.TheVariants as outcomes;
 ghost use Rattle.up_shape.specs.Stores.{Stays};
 ghost use Rattle.up_strand.specs.Gifts.{NodesFit};
-ghost use Rattle.up_strand.specs.Stand.{StandForSome, AreTaking};
-ghost use Rattle.up_strand.specs.Steps.{IsGoing, NodesAre, NodesTook, WentOn, taken_where};
+ghost use Rattle.up_strand.specs.Stand.{NodesAre, StandForSome, AreTaking};
+ghost use Rattle.up_strand.specs.Steps.{IsGoing, NodesTook, WentOn, taken_where};
 ghost use Rattle.up_strand.specs.Tree.{IsSwept};
 
 use crate::ending::{break_all, end_all, fall};

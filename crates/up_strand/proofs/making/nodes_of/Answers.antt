@@ -1,7 +1,8 @@
 use Rattle.std.proofs.Common.{◌≡◌, ℕ, Bool, drop, get_or, ap, sym, ◌∙◌, arith, rules, cond, None}
 use Rattle.std.proofs.lemmas.List.{drop-drop, get_or_default, length-drop}
 use Rattle.up_strand.proofs.Begun.{more_at, next_sink, node_begins, one_more, sink_waits, sinks_before}
-use Rattle.up_strand.specs.Making.{HasBegun, is_sink_in, seat_in, told_in}
+use Rattle.up_strand.specs.Making.{HasBegun, is_sink_in, seat_in, sink_places}
+use Rattle.up_strand.specs.StrandCalls.{told_of}
 use Rattle.up_strand.specs.declared.node.Part.TheVariants.{Sink}
 use Rattle.up_strand.proofs.making.nodes_of.Goals as goal
 
@@ -21,7 +22,7 @@ loop-i-preserved g c =
     let can = c.requires.shape in
     let state = g.K.Sink.state in
     let plain = g.P.LocalPacket.plain in
-    let told = told_in pipes shape state sinks in
+    let told = told_of state (sink_places pipes shape) sinks in
     let more : ℕ = cond (is_sink_in pipes shape i) 1 0 in
     let inputs = can.inputs in
     let takers = can.takers in

@@ -1,7 +1,8 @@
 use Rattle.std.proofs.Common.{rules, ◌≡◌, [], Some, drop, length, refl, subst, sym}
 use Rattle.up_strand.proofs.Trees.{as_written}
 use Rattle.up_strand.specs.Gifts.{NodesFit}
-use Rattle.up_strand.specs.Steps.{NodesAre, NodesTook}
+use Rattle.up_strand.specs.Stand.{NodesAre}
+use Rattle.up_strand.specs.Steps.{NodesTook}
 use Rattle.up_strand.proofs.tree.Tree.break_off.Goals as goal
 
 pub returns-clause-went : goal.returns-clause-went

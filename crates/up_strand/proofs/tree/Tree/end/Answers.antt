@@ -2,7 +2,8 @@ use Rattle.std.proofs.Common.{rules, ◌≡◌, [], Some, drop, false, length, r
 use Rattle.up_model.specs.declared.outcome.Outcome.TheVariants as outcomes
 use Rattle.up_strand.proofs.Trees.{as_written}
 use Rattle.up_strand.specs.Gifts.{NodesFit}
-use Rattle.up_strand.specs.Steps.{NodesAre, NodesTook}
+use Rattle.up_strand.specs.Stand.{NodesAre}
+use Rattle.up_strand.specs.Steps.{NodesTook}
 use Rattle.up_strand.proofs.tree.Tree.end.Goals as goal
 
 pub returns-clause-went : goal.returns-clause-went

@@ -1,7 +1,8 @@
 use Rattle.std.proofs.Common.{rules, ◌≡◌, None, drop, false, length, refl, subst, sym}
 use Rattle.up_strand.proofs.Trees.{as_written}
 use Rattle.up_strand.specs.Gifts.{NodesFit}
-use Rattle.up_strand.specs.Steps.{NodesAre, NodesTook, taken_where}
+use Rattle.up_strand.specs.Stand.{NodesAre}
+use Rattle.up_strand.specs.Steps.{NodesTook, taken_where}
 use Rattle.up_strand.proofs.tree.Tree.feed.Goals as goal
 
 pub returns-clause-went : goal.returns-clause-went
