@@ -4,7 +4,10 @@ use Rattle.std.proofs.KnownBytes.{Appends-trans, Appends-nil, Appends-kept}
 use Rattle.std.proofs.Math.Seq.{take-add, take-append_seam}
 use Rattle.std.proofs.lemmas.List.{take_rest}
 use Rattle.std.specs.Io.KnownBytes.{Appends, Keeps}
+use Rattle.std.specs.Prelude.{Err}
 use Rattle.up_base.specs.Lists.{IsPrefix}
+use Rattle.up_base.specs.declared.refusal.Refusal.{Refusal}
+use Rattle.up_outside.specs.Moves.{Writes}
 use Rattle.up_outside.proofs.Told.{Then-trans}
 use Rattle.up_outside.specs.States.{SinkState}
 use Rattle.up_outside.specs.Told.{Then}
@@ -85,6 +88,11 @@ receives_refused a b c n bytes one kept same = record {
   whole = λ is. absurd (cc);
   same = same_on a b c one.same same;
 }
+
+-- the same of a write of some piece
+pub receives_none : (a b c : SinkState) (n : ℕ) (bytes piece : List ℕ) (refusal : Refusal) → Receives a b true (take n bytes) → Writes b c piece (Err refusal)
+    → Receives a c false bytes
+receives_none a b c n bytes piece refusal one writes = receives_refused a b c n bytes one writes.bytes (same_summed b c 0 writes.place writes.sum)
 
 -- more bytes follow those that were taken
 pub taken_more : (had more : ℕ) (piece : List ℕ) → take (had + more) piece ≡ take had piece ++ take more (take (length piece - had) (drop had piece))

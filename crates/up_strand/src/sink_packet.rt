@@ -7,6 +7,7 @@ use up_outside::Sink;
 use up_shape::LocalPacket;
 
 /// Writes a piece by as many writes as it takes. After a refusal a prefix of it was written.
+#[tactic(auto, using(crate::proofs::Writes::receives_none))]
 fn drain<K: Sink>(sink: &mut K, piece: &[u8]) -> Result<(), Refusal>
     ensures bytes { Receives (K.state sink.old) (K.state sink.new) (is_ok result) piece.now }
     ensures faults { CountsOnce (is_failed result)

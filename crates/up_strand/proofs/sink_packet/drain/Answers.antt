@@ -1,13 +1,7 @@
 use Rattle.std.proofs.Common.{arith, ℕ, true, refl, subst, sym, ◌∙◌, length-take, length-drop}
-use Rattle.up_strand.proofs.Writes.{receives_next, receives_refused, same_summed, taken_more}
+use Rattle.up_strand.proofs.Writes.{receives_next, same_summed, taken_more}
 use Rattle.up_strand.specs.Writing.{Receives}
 use Rattle.up_strand.proofs.sink_packet.drain.Goals as goal
-
-pub returns-in-Err-clause-bytes : goal.returns-in-Err-clause-bytes
-returns-in-Err-clause-bytes g c =
-    let writes = c.write.ensures.writes in
-    receives_refused _ _ _ c.loop-count.count _ c.loop-count.invariant.bytes c.in-Err.ensures.writes.bytes
-    (same_summed _ _ _ writes.place writes.sum)
 
 pub loop-count-preserved : goal.loop-count-preserved
 loop-count-preserved g c =
