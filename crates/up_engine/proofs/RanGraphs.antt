@@ -16,20 +16,20 @@ use Rattle.up_engine.proofs.WentThrough.{went_through}
 use Rattle.up_engine.specs.Carried.{CarriedBy, CarriedShort}
 use Rattle.up_engine.specs.Entries.{KeepsOtherPaths, KeepsPathsOf, path_places}
 use Rattle.up_engine.specs.Objects.{AreOpen, AreThere, Closes, Opens, object_at}
-use Rattle.up_engine.specs.Rooms.{EndsRun, answer_of}
+use Rattle.up_engine.specs.Rooms.{AreClosed, answer_of}
 use Rattle.up_engine.specs.Runs.{RanGraph, RanTo, Ways, fault_of}
 use Rattle.up_engine.specs.declared.object.Object.{Object}
 use Rattle.up_engine.specs.declared.object.Object.TheVariants as objects
 use Rattle.up_engine.specs.declared.opening.Opening.{Opening}
 use Rattle.up_engine.specs.declared.opening.Opening.TheVariants.{All, Refused, NoMemory}
 use Rattle.up_engine.specs.declared.rooms.Rooms.{Rooms}
-use Rattle.up_engine.specs.declared.run_outcome.RunOutcome.{RunOutcome}
 use Rattle.up_engine.specs.declared.run_outcome.RunOutcome.TheVariants as answers
 use Rattle.up_model.specs.Tallies.{nothing}
 use Rattle.up_model.specs.WellFormed.{IsWellFormed}
 use Rattle.up_model.specs.declared.outcome.Outcome.{Outcome}
 use Rattle.up_model.specs.declared.outcome.Outcome.TheVariants as outcomes
 use Rattle.up_model.specs.declared.pipe.Pipe.{Pipe}
+use Rattle.up_model.specs.declared.tally.Tally.{Tally}
 use Rattle.up_outside.specs.States.{DepotState, SourceState, SinkState}
 use Rattle.up_outside.specs.declared.asked.Entry.{Entry}
 use Rattle.up_shape.specs.Stores.{StoreState}
@@ -101,8 +101,15 @@ module _ {S K : Type 0} (reads : S → SourceState) (writes : K → SinkState) (
         let carried = subst (λ (l : List (Object S K)). CarriedShort reads writes pipes l after) same short in
         subst (CanEnd mid) (sym kept) (can_end All opens after (left_carried reads writes pipes opens.count opened after opens.stops carried))
 
-  module _ {F : Type 0} (well : IsWellFormed pipes) (old mid new : DepotState) (opened : List (Object S K)) (rooms : Rooms S K) (outcome : RunOutcome)
+  module _ {F : Type 0} (well : IsWellFormed pipes) (old mid new : DepotState) (opened : List (Object S K)) (rooms closed : Rooms S K)
       (store_before store_after : StoreState F) where
+    -- the sums that are told
+    told : (carried : Result (Unit {0}) NoMemoryFound) {before after : List Tally} → before ≡ after
+        → RanTo pipes old new store_before store_after (answer_of carried closed.results.outcomes.items before)
+        → RanTo pipes old new store_before store_after (answer_of carried closed.results.outcomes.items after)
+    told carried same ran =
+        subst (λ (sums : List Tally). RanTo pipes old new store_before store_after (answer_of carried closed.results.outcomes.items sums)) same ran
+
     ran_carried : (opens : Opens reads writes pipes old mid opened All) (left : LeftOpen reads writes pipes opens.count opened rooms.table.items)
         (after : List (Object S K)) (ends : List Outcome)
         (closes : Closes reads writes pipes opens.count mid new rooms.table.items after rooms.results.outcomes.items ends)
@@ -123,8 +130,8 @@ module _ {S K : Type 0} (reads : S → SourceState) (writes : K → SinkState) (
         → Opens reads writes pipes old mid opened All → CarriedShort reads writes pipes before after
         → OnOk carried ((ways : Ways) × CarriedBy reads writes pipes before after ways rooms.results store_before store_after)
         → length rooms.results.outcomes.items ≡ length pipes → length rooms.results.tallies.items ≡ length pipes
-        → ((count : ℕ) → AreThere reads writes pipes count rooms.table.items → EndsRun reads writes pipes count rooms carried mid new outcome)
-        → RanGraph pipes old new store_before store_after outcome
+        → ((count : ℕ) → AreThere reads writes pipes count rooms.table.items → AreClosed reads writes pipes count rooms closed mid new)
+        → RanGraph pipes old new store_before store_after (answer_of carried closed.results.outcomes.items closed.results.tallies.items)
     ran_all before after carried same kept opens short by long counted ends =
         let short_as : CarriedShort reads writes pipes opened rooms.table.items =
         subst (λ (l : List (Object S K)). CarriedShort reads writes pipes l rooms.table.items) same
@@ -135,8 +142,8 @@ module _ {S K : Type 0} (reads : S → SourceState) (writes : K → SinkState) (
         let left = left_carried reads writes pipes opens.count opened rooms.table.items opens.stops short_as in
         let ended = ends opens.count left.there in
         record {
-          others = others_closed reads writes pipes old mid new All opened rooms.table.items ended.after rooms.results.outcomes.items ended.ends opens left ended.closes;
-          to = subst (RanTo pipes old new store_before store_after) (sym ended.answer) (ran_carried opens left ended.after ended.ends ended.closes carried by_as long counted);
+          others = others_closed reads writes pipes old mid new All opened rooms.table.items closed.table.items rooms.results.outcomes.items closed.results.outcomes.items opens left ended.closes;
+          to = told carried (sym ended.sums) (ran_carried opens left closed.table.items closed.results.outcomes.items ended.closes carried by_as long counted);
         }
 
     -- an open was refused
@@ -144,29 +151,29 @@ module _ {S K : Type 0} (reads : S → SourceState) (writes : K → SinkState) (
         → Opens reads writes pipes old mid opened (Refused place)
         → rooms.results.outcomes.items ≡ set (replicate (length pipes) outcomes.Broken) place (fault_of pipe.kind)
         → rooms.results.tallies.items ≡ replicate (length pipes) nothing
-        → ((count : ℕ) → AreThere reads writes pipes count rooms.table.items → EndsRun reads writes pipes count rooms (Ok tt) mid new outcome)
-        → RanGraph pipes old new store_before store_after outcome
+        → ((count : ℕ) → AreThere reads writes pipes count rooms.table.items → AreClosed reads writes pipes count rooms closed mid new)
+        → RanGraph pipes old new store_before store_after (answer_of (Ok tt) closed.results.outcomes.items closed.results.tallies.items)
     ran_refused place pipe is same opens are none ends =
         let ended = ends opens.count (subst (AreThere reads writes pipes opens.count) (sym same) opens.there) in
-        let closes = subst (λ (l : List (Object S K)). Closes reads writes pipes opens.count mid new l ended.after rooms.results.outcomes.items ended.ends) same ended.closes in
+        let closes = subst (λ (l : List (Object S K)). Closes reads writes pipes opens.count mid new l closed.table.items rooms.results.outcomes.items closed.results.outcomes.items) same ended.closes in
         record {
-          others = others_closed reads writes pipes old mid new (Refused place) opened opened ended.after rooms.results.outcomes.items ended.ends opens
+          others = others_closed reads writes pipes old mid new (Refused place) opened opened closed.table.items rooms.results.outcomes.items closed.results.outcomes.items opens
               (left_alone reads writes pipes opens.count opened opens.there) closes;
-          to = subst (RanTo pipes old new store_before store_after) (sym ended.answer) (inr
-              (stopped_there reads writes pipes old mid new place pipe is opened ended.after rooms.results.outcomes.items ended.ends opens closes are
+          to = told (Ok tt) (sym ended.sums) (inr
+              (stopped_there reads writes pipes old mid new place pipe is opened closed.table.items rooms.results.outcomes.items closed.results.outcomes.items opens closes are
               well rooms.results.tallies.items none));
         }
 
     -- memory ran out while paths were opened
     pub ran_unopened : rooms.table.items ≡ opened → Opens reads writes pipes old mid opened NoMemory
-        → ((count : ℕ) → AreThere reads writes pipes count rooms.table.items → EndsRun reads writes pipes count rooms (Err (record {})) mid new outcome)
-        → RanGraph pipes old new store_before store_after outcome
+        → ((count : ℕ) → AreThere reads writes pipes count rooms.table.items → AreClosed reads writes pipes count rooms closed mid new)
+        → RanGraph pipes old new store_before store_after (answer_of (Err (record {})) closed.results.outcomes.items closed.results.tallies.items)
     ran_unopened same opens ends =
         let left = left_alone reads writes pipes opens.count opened opens.there in
         let ended = ends opens.count (subst (AreThere reads writes pipes opens.count) (sym same) opens.there) in
-        let closes = subst (λ (l : List (Object S K)). Closes reads writes pipes opens.count mid new l ended.after rooms.results.outcomes.items ended.ends) same ended.closes in
+        let closes = subst (λ (l : List (Object S K)). Closes reads writes pipes opens.count mid new l closed.table.items rooms.results.outcomes.items closed.results.outcomes.items) same ended.closes in
         record {
-          others = others_closed reads writes pipes old mid new NoMemory opened opened ended.after rooms.results.outcomes.items ended.ends opens left closes;
-          to = subst (RanTo pipes old new store_before store_after) (sym ended.answer)
-              (stopped_short reads writes pipes old mid new NoMemory opened opened ended.after rooms.results.outcomes.items ended.ends opens left closes refl well);
+          others = others_closed reads writes pipes old mid new NoMemory opened opened closed.table.items rooms.results.outcomes.items closed.results.outcomes.items opens left closes;
+          to = told (Err (record {})) (sym ended.sums)
+              (stopped_short reads writes pipes old mid new NoMemory opened opened closed.table.items rooms.results.outcomes.items closed.results.outcomes.items opens left closes refl well);
         }

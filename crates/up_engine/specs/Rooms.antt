@@ -52,13 +52,10 @@ module _ {S K : Type 0} (pipes : List Pipe) (rooms : Rooms S K) where
     pub outcomes : rooms.outcomes ≡ record { room = length pipes; items = [] }
     pub tallies : rooms.tallies ≡ record { room = length pipes; items = [] }
 
--- what was open in these rooms was closed, and the answer tells how each pipe then ended
+-- what was open in these rooms was closed, which changes no sum
 module _ {S K : Type 0} (reads : S → SourceState) (writes : K → SinkState) (pipes : List Pipe)
-    (count : ℕ) (rooms : Rooms S K) (carried : Result (Unit {0}) NoMemoryFound)
-    (old new : DepotState) where
-  pub record EndsRun (outcome : RunOutcome) : Type 0 where
-    pub after : List (Object S K)
-    pub ends : List Outcome
-    pub closes : Closes reads writes pipes count old new rooms.table.items after
-        rooms.results.outcomes.items ends
-    pub answer : outcome ≡ answer_of carried ends rooms.results.tallies.items
+    (count : ℕ) (before after : Rooms S K) (old new : DepotState) where
+  pub record AreClosed : Type 0 where
+    pub closes : Closes reads writes pipes count old new before.table.items after.table.items
+        before.results.outcomes.items after.results.outcomes.items
+    pub sums : after.results.tallies.items ≡ before.results.tallies.items

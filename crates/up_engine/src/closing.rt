@@ -52,7 +52,7 @@ pub(crate) fn take_out<S: Source, K: Sink>(table: &mut [Object<S, K>], place: us
     mem::replace(&mut table[place], Object::None)
 }
 
-fn close_one<D: Depot>(
+pub(crate) fn close_one<D: Depot>(
     kind: &Kind,
     object: Object<D::Src, D::Snk>,
     depot: &mut D,

@@ -1,8 +1,8 @@
-ghost use Rattle.std.specs.Prelude.{◌≡◌, ℕ, List, length, IfSome, OnOk};
+ghost use Rattle.std.specs.Prelude.{◌≡◌, ℕ, List, length, All, IfSome, OnOk};
 ghost use Rattle.up_engine.specs.Carried.{CarriedBy, CarriedShort};
 ghost use Rattle.up_engine.specs.Entries.{path_places};
 ghost use Rattle.up_engine.specs.Objects.{AreOpen, AreThere};
-ghost use Rattle.up_engine.specs.Rooms.{AreRoomsOf, EndsRun, HaveRoomFor};
+ghost use Rattle.up_engine.specs.Rooms.{AreClosed, AreRoomsOf, HaveRoomFor, IsNone, answer_of};
 ghost use Rattle.up_engine.specs.Runs.{RanGraph, Ways, fault_of};
 ghost use Rattle.up_model.specs.WellFormed.{IsWellFormed};
 ghost use Rattle.up_outside.specs.declared.asked.Entry.{Entry as TheEntry};
@@ -38,22 +38,29 @@ pub fn run_one_thread<P: LocalPacket, D: Depot>(
     ensures store { Stays (P.Store.state store.old) (P.Store.state store.new) }
 {
     match Rooms::of(alloc, graph) {
-        Ok(rooms) => run_in::<P, D>(alloc, graph, depot, store, rooms),
+        Ok(mut rooms) => {
+            let carried = run_in::<P, D>(alloc, graph, depot, store, &mut rooms);
+            rooms.end(carried)
+        }
         Err(NoMemory) => RunOutcome::NoMemory,
     }
 }
 
+/// Runs a graph in these rooms, where it leaves nothing open.
 fn run_in<P: LocalPacket, D: Depot>(
     alloc: Global,
     graph: &Graph,
     depot: &mut D,
     store: &mut P::Store,
-    mut rooms: Rooms<D::Src, D::Snk>,
-) -> RunOutcome
+    rooms: &mut Rooms<D::Src, D::Snk>,
+) -> Result<(), NoMemory>
     requires well_formed { IsWellFormed graph.now.pipes }
-    requires rooms { AreRoomsOf graph.now.pipes rooms }
+    requires rooms { AreRoomsOf graph.now.pipes rooms.old }
     ensures ran { RanGraph graph.now.pipes (D.state depot.old) (D.state depot.new)
-        (P.Store.state store.old) (P.Store.state store.new) result }
+        (P.Store.state store.old) (P.Store.state store.new)
+        (answer_of result rooms.new.results.outcomes.items rooms.new.results.tallies.items) }
+    ensures room { HaveRoomFor graph.now.pipes rooms.new }
+    ensures none { All IsNone rooms.new.table.items }
     ensures store { Stays (P.Store.state store.old) (P.Store.state store.new) }
 {
     match open_all(graph, &rooms.order, depot, &mut rooms.table) {
@@ -66,14 +73,19 @@ fn run_in<P: LocalPacket, D: Depot>(
                 &mut rooms.results,
                 store,
             );
-            end_run(graph, depot, rooms, carried)
+            close_rooms(graph, depot, rooms);
+            carried
         }
         Opening::Refused { place } => {
             let at = usize::from(place);
             rooms.results.outcomes[at] = fault_of(&graph.pipes.at(at).kind);
-            end_run(graph, depot, rooms, Ok(()))
+            close_rooms(graph, depot, rooms);
+            Ok(())
         }
-        Opening::NoMemory => end_run(graph, depot, rooms, Err(NoMemory)),
+        Opening::NoMemory => {
+            close_rooms(graph, depot, rooms);
+            Err(NoMemory)
+        }
     }
 }
 
@@ -106,23 +118,21 @@ fn carry_all<P: LocalPacket, S: Source, K: Sink>(
     Ok(())
 }
 
-fn end_run<D: Depot>(
-    graph: &Graph,
-    depot: &mut D,
-    mut rooms: Rooms<D::Src, D::Snk>,
-    carried: Result<(), NoMemory>,
-) -> RunOutcome
+/// Closes what is open in these rooms.
+fn close_rooms<D: Depot>(graph: &Graph, depot: &mut D, rooms: &mut Rooms<D::Src, D::Snk>)
     requires well_formed { IsWellFormed graph.now.pipes }
-    requires order { rooms.order.items ≡ path_places graph.now.pipes }
+    requires order { rooms.old.order.items ≡ path_places graph.now.pipes }
     requires there { (count : ℕ)
-        × AreThere D.Src.state D.Snk.state graph.now.pipes count rooms.table.items
+        × AreThere D.Src.state D.Snk.state graph.now.pipes count rooms.old.table.items
         × IfSome (D.state depot.old).asked (λ asked. (first : List TheEntry)
-        × AreOpen D.Src.state D.Snk.state graph.now.pipes count rooms.table.items first asked) }
-    requires room { HaveRoomFor graph.now.pipes rooms }
-    ensures { (count : ℕ)
-        → AreThere D.Src.state D.Snk.state graph.now.pipes count rooms.table.items
-        → EndsRun D.Src.state D.Snk.state graph.now.pipes count rooms carried (D.state depot.old)
-        (D.state depot.new) result }
+        × AreOpen D.Src.state D.Snk.state graph.now.pipes count rooms.old.table.items first asked) }
+    requires room { HaveRoomFor graph.now.pipes rooms.old }
+    ensures closes { (count : ℕ)
+        → AreThere D.Src.state D.Snk.state graph.now.pipes count rooms.old.table.items
+        → AreClosed D.Src.state D.Snk.state graph.now.pipes count rooms.old rooms.new
+        (D.state depot.old) (D.state depot.new) }
+    ensures room { HaveRoomFor graph.now.pipes rooms.new }
+    ensures none { All IsNone rooms.new.table.items }
 {
     close_all(
         graph,
@@ -131,7 +141,6 @@ fn end_run<D: Depot>(
         &mut rooms.table,
         &mut rooms.results.outcomes,
     );
-    rooms.end(carried)
 }
 
 /// The fault of a pipe whose path couldn't be opened.

@@ -1,8 +1,8 @@
 // The paths of a graph, opened.
-ghost use Rattle.std.specs.Prelude.{◌≡◌, ◌<◌, length, slice_index_or, slice_set, true};
+ghost use Rattle.std.specs.Prelude.{◌≡◌, ◌<◌, length, slice_index_or, slice_set, true, IfOk, IfSome};
 ghost use Rattle.std.specs.Option.{is_some};
 ghost use Rattle.up_engine.specs.Entries.{path_places};
-ghost use Rattle.up_engine.specs.Objects.{AreThere, Opens, OpensOne};
+ghost use Rattle.up_engine.specs.Objects.{AreThere, Opens, OpensOne, StandsOpen};
 ghost use Rattle.up_engine.specs.declared.object.Object.TheVariants as objects;
 ghost use Rattle.up_model.specs.Ends.{path_of};
 ghost use Rattle.up_model.specs.WellFormed.{IsWellFormed};
@@ -48,10 +48,15 @@ pub(crate) fn open_all<D: Depot>(
     Opening::All
 }
 
-fn open_one<D: Depot>(kind: &Kind, depot: &mut D) -> Result<Object<D::Src, D::Snk>, Refusal>
+pub(crate) fn open_one<D: Depot>(
+    kind: &Kind,
+    depot: &mut D,
+) -> Result<Object<D::Src, D::Snk>, Refusal>
     requires { is_some (path_of kind.now) ≡ true }
-    ensures { OpensOne D.Src.state D.Snk.state kind.now (D.state depot.old) (D.state depot.new)
-        result }
+    ensures opens { OpensOne D.Src.state D.Snk.state kind.now (D.state depot.old)
+        (D.state depot.new) result }
+    ensures open_entry { IfOk result (λ object. IfSome (D.state depot.new).asked
+        (StandsOpen D.Src.state D.Snk.state kind.now object)) }
 {
     match kind {
         Kind::Source { path, .. } => Ok(Object::Source(depot.open_source(path.as_str())?)),

@@ -41,21 +41,21 @@ returns-in-Err-Failed g c =
     opens_refused g.D.Src.Source.state g.D.Snk.Sink.state c.args.graph.now.pipes c.loop-i.i _ _ (g.D.Depot.state c.open_one.new.depot) c.loop-i.table c.loop-i.invariant
     _ c.at.result.now (omega (arith, ap length c.requires.order)) (next_place c.args.graph.now.pipes c.args.order.now c.loop-i.i _ c.requires.order refl)
     (ap (slice_get c.args.graph.now.pipes) (sym c.from.ensures) ∙ c.at.ensures)
-    (Err c.in-Err-Failed.field-0) (ap Err c.in-Err-Failed.field-0-is) c.in-Err-Failed.ensures
+    (Err c.in-Err-Failed.field-0) (ap Err c.in-Err-Failed.field-0-is) c.in-Err-Failed.ensures.opens
 
 pub returns-in-Err-NoMemory : goal.returns-in-Err-NoMemory
 returns-in-Err-NoMemory g c =
     opens_no_memory g.D.Src.Source.state g.D.Snk.Sink.state c.args.graph.now.pipes c.loop-i.i _ _ (g.D.Depot.state c.open_one.new.depot) c.loop-i.table c.loop-i.invariant
     _ c.at.result.now (omega (arith, ap length c.requires.order)) (next_place c.args.graph.now.pipes c.args.order.now c.loop-i.i _ c.requires.order refl)
     (ap (slice_get c.args.graph.now.pipes) (sym c.from.ensures) ∙ c.at.ensures)
-    (Err c.in-Err-NoMemory.field-0) (ap Err c.in-Err-NoMemory.field-0-is) c.in-Err-NoMemory.ensures
+    (Err c.in-Err-NoMemory.field-0) (ap Err c.in-Err-NoMemory.field-0-is) c.in-Err-NoMemory.ensures.opens
 
 pub loop-i-preserved : goal.loop-i-preserved
 loop-i-preserved g c =
     rw c.put.ensures (opened_more g.D.Src.Source.state g.D.Snk.Sink.state c.args.graph.now.pipes c.requires.well_formed c.loop-i.i c.from-in-Ok.result c.at.result.now
     (omega (arith, ap length c.requires.order)) (next_place c.args.graph.now.pipes c.args.order.now c.loop-i.i c.from-in-Ok.result c.requires.order c.from-in-Ok.ensures)
     (ap (slice_get c.args.graph.now.pipes) (c.from-in-Ok.ensures ∙ sym c.from.ensures) ∙ c.at.ensures)
-    _ _ (g.D.Depot.state c.open_one.new.depot) c.loop-i.table c.loop-i.invariant c.in-Ok.object c.in-Ok.ensures)
+    _ _ (g.D.Depot.state c.open_one.new.depot) c.loop-i.table c.loop-i.invariant c.in-Ok.object c.in-Ok.ensures.opens)
 
 pub returns : goal.returns
 returns g c = opens_all g.D.Src.Source.state g.D.Snk.Sink.state c.args.graph.now.pipes c.loop-i.i _ _ c.loop-i.table c.loop-i.invariant (omega (arith, ap length c.requires.order))
