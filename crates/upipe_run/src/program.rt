@@ -88,7 +88,7 @@ pub fn run_single<D: Depot, K: Sink, E: Sink>(
 }
 
 /// Runs the program over its words, without the program's own name, and answers the status.
-#[tactic(auto, using(crate::proofs::WordsDone::does_run))]
+#[tactic(auto, using(crate::proofs::WordsDone::does_run, crate::proofs::WordsDone::does_no_memory, crate::proofs::WordsDone::does_usage))]
 pub fn run<R: Threads + Wait + Sync, D: Depot, K: Sink, E: Sink>(
     rt: &R,
     alloc: Global,
