@@ -38,6 +38,7 @@ use Rattle.upipe_run.specs.Seen.{Seen}
 use Rattle.upipe_run.specs.Tells.{TellsEnding}
 use Rattle.upipe_run.specs.declared.ending.Ending.{Ending}
 use Rattle.upipe_run.specs.declared.ending.Ending.TheVariants as endings
+use Rattle.upipe_run.proofs.Drained.{told_status}
 use Rattle.upipe_run.proofs.Deciding.{each_told, no_cause, none_decides}
 use Rattle.upipe_run.proofs.RanFiles.{paths_within, refused_told}
 use Rattle.upipe_run.proofs.RunLaws.{moved_by, refusal_status, same_entries}
@@ -193,13 +194,13 @@ module _ (path : List ℕ) (old new : Seen) where
   clean_by endings.NoMemory status causes tells zero = absurd (no_zero status 7 (inr tells.status_is) (omega arith) zero)
   clean_by (endings.Faulty faults.Usage) status causes tells zero = absurd causes
   clean_by (endings.Faulty (faults.Graph refusal)) status causes tells zero =
-      absurd (no_zero status 3 (refusal_status path old new refusal status causes.of_text tells.status_is) (omega arith) zero)
-  clean_by (endings.Faulty faults.ReadGraph) status causes tells zero = absurd (no_zero status 4 tells.status_is (omega arith) zero)
-  clean_by (endings.Faulty (faults.Read name)) status causes tells zero = absurd (no_zero status 4 tells.status_is (omega arith) zero)
-  clean_by (endings.Faulty (faults.Write name)) status causes tells zero = absurd (no_zero status 5 tells.status_is (omega arith) zero)
+      absurd (no_zero status 3 (refusal_status path old new refusal status causes.of_text (told_status tells)) (omega arith) zero)
+  clean_by (endings.Faulty faults.ReadGraph) status causes tells zero = absurd (no_zero status 4 (told_status tells) (omega arith) zero)
+  clean_by (endings.Faulty (faults.Read name)) status causes tells zero = absurd (no_zero status 4 (told_status tells) (omega arith) zero)
+  clean_by (endings.Faulty (faults.Write name)) status causes tells zero = absurd (no_zero status 5 (told_status tells) (omega arith) zero)
   clean_by (endings.Faulty faults.WriteReport) status causes tells zero = absurd causes
   clean_by (endings.Faulty (faults.BadFrame name offset)) status causes tells zero = absurd causes
-  clean_by (endings.Faulty (faults.TooLong name limit)) status causes tells zero = absurd (no_zero status 8 tells.status_is (omega arith) zero)
+  clean_by (endings.Faulty (faults.TooLong name limit)) status causes tells zero = absurd (no_zero status 8 (told_status tells) (omega arith) zero)
 
   pub are_clean : (status : ℕ) → Runs path old new status → status ≡ 0 → RanClean path old.depot new.depot
   are_clean status runs zero = clean_by runs.explained.ending status runs.explained.causes runs.explained.fault_text zero

@@ -1,7 +1,7 @@
 -- What the pipe that decides a run says of it.
-use Rattle.std.proofs.Common.{◌≡◌, ◌⊎◌, ℕ, ◌+◌, ◌-◌, ◌^◌, ◌<◌, ◌≤◌, ◌==◌, ◌&&◌, ◌||◌, min, not, List, length, map, get_or, cond, Bool, true, false, Option, Some, None, slice_get, refl, sym, ap, subst, ◌∙◌, arith, inl, inr, count_by}
+use Rattle.std.proofs.Common.{◌≡◌, ℕ, ◌<◌, List, length, map, get_or, cond, Bool, true, false, Option, Some, None, slice_get, refl, sym, ap, ◌∙◌, arith, inl, inr, count_by}
 use Rattle.std.specs.Prelude.{unwrap_or}
-use Rattle.std.specs.List.{Contains, filter}
+use Rattle.std.specs.List.{Contains}
 use Rattle.std.specs.Option.{option_map_or}
 use Rattle.std.proofs.lemmas.Bool.{cases_lt, lt-ltb, le-ltb}
 use Rattle.std.proofs.lemmas.List.Elements.{Contains-get_or}

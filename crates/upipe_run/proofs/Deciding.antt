@@ -1,12 +1,13 @@
 -- Which pipe decides how a run is told.
-use Rattle.std.proofs.Common.{◌≡◌, ℕ, ◌+◌, ◌<◌, ◌≤◌, List, length, map, get_or, cond, ltb, Bool, true, false, Option, Some, None, slice_get, refl, sym, ap, subst, ◌∙◌, arith, inl, inr}
+use Rattle.std.proofs.Common.{◌≡◌, ℕ, ◌<◌, ◌≤◌, List, length, map, get_or, cond, ltb, true, false, Option, Some, None, slice_get, refl, subst, arith, inl, inr}
 use Rattle.std.specs.List.{position_or_len}
 use Rattle.std.specs.Option.{option_map_or}
 use Rattle.std.proofs.lemmas.Bool.{cases_lt, lt-ltb}
+use Rattle.std.proofs.lemmas.List.{get_or_past}
 use Rattle.std.proofs.lemmas.List.FromFn.{get_or-map-range_with_len, length-map-range_with_len}
 use Rattle.std.proofs.lemmas.List.Quantifiers.{position-Some}
 use Rattle.std.proofs.lemmas.List.Sums.{fails_before_first}
-use Rattle.std.proofs.lemmas.Option.{get_or_from_slice_get, slice_get_within}
+use Rattle.std.proofs.lemmas.Option.{slice_get_past, slice_get_within}
 use Rattle.up_model.proofs.WellFormed.{there}
 use Rattle.up_model.specs.Inputs.{places}
 use Rattle.up_model.specs.Outcomes.{deciding, is_cause}
@@ -16,16 +17,19 @@ use Rattle.up_model.specs.declared.pipe.Pipe.{Pipe}
 use Rattle.upipe_run.specs.Endings.{ending_by, ending_told}
 use Rattle.upipe_run.specs.declared.ending.Ending.TheVariants as endings
 
--- it is one of the pipes
-pub decides_within : (ends : List Outcome) (place : ℕ) → deciding ends ≡ Some place → place < length ends
-decides_within ends place is = (position-Some is_cause ends place Whole is).0
+-- a place of no pipe decides nothing, nor does one of no outcome
+module _ (pipes : List Pipe) (ends : List Outcome) (place : ℕ) where
+  pub past_pipes : length pipes ≤ place → endings.Whole ≡ ending_told pipes ends (Some place)
+  past_pipes past = let none = slice_get_past pipes place past in rw none refl
 
--- the ending is the one that it decides
-pub told_by : (pipes : List Pipe) (ends : List Outcome) (decides : Option ℕ) (place : ℕ) (pipe : Pipe) (outcome : Outcome)
-    → decides ≡ Some place → slice_get pipes place ≡ Some pipe → slice_get ends place ≡ Some outcome → ending_by pipe outcome ≡ ending_told pipes ends decides
-told_by pipes ends decides place pipe outcome is there came =
-    let came_is : get_or ends place Whole ≡ outcome = get_or_from_slice_get ends place outcome Whole came in
-    rw (is, there, came_is) refl
+  decides_nothing : (pipe : Option Pipe) → endings.Whole ≡ option_map_or (λ (pipe : Pipe). ending_by pipe Whole) pipe endings.Whole
+  decides_nothing None = refl
+  decides_nothing (Some pipe) = refl
+
+  pub past_ends : length ends ≤ place → endings.Whole ≡ ending_told pipes ends (Some place)
+  past_ends past =
+      let whole : get_or ends place Whole ≡ Whole = get_or_past ends place Whole past in
+      rw whole (decides_nothing (slice_get pipes place))
 
 -- a cause is told
 cause_told : (pipe : Pipe) (outcome : Outcome) → is_cause outcome ≡ true → ending_by pipe outcome ≡ endings.Whole → ⊥

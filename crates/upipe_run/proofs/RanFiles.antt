@@ -1,11 +1,10 @@
 -- The run of a graph file, by its text and by what the run of its graph did.
-use Rattle.std.proofs.Common.{◌≡◌, ◌⊎◌, ℕ, ◌<◌, ◌≤◌, ◌==◌, ◌||◌, List, length, map, not, Bool, true, false, Option, Some, None, IfSome, Ok, Err, inl, inr, slice_get, get_or, cond, refl, sym, ap, subst, ◌∙◌, arith}
+use Rattle.std.proofs.Common.{◌≡◌, ℕ, ◌<◌, ◌==◌, List, length, Bool, true, false, Option, Some, None, IfSome, Ok, Err, inl, inr, slice_get, get_or, refl, sym, ap, subst, ◌∙◌}
 use Rattle.std.specs.List.{All, filter}
 use Rattle.std.specs.Option.{is_some, option_map_or}
 use Rattle.std.proofs.lemmas.Bool.{eq-eqb}
 use Rattle.std.proofs.lemmas.List.Elements.{All-append, All-weaker, filter_passes}
 use Rattle.std.proofs.lemmas.Option.{get_or_from_slice_get, slice_get_within}
-use Rattle.up_base.specs.declared.refusal.Refusal.TheVariants as reads
 use Rattle.up_engine.proofs.PathPlaces.{HasPathAt, path_place_stands}
 use Rattle.up_engine.specs.Entries as of_pipes
 use Rattle.up_engine.specs.Runs.{Ways, ending, ending_refused, RanThrough, StoppedThere, RanGraph}
@@ -20,7 +19,6 @@ use Rattle.up_model.specs.Ends.{path_of}
 use Rattle.up_model.specs.Inputs.{PipeTest, ends_at_source, passes_at, places}
 use Rattle.up_model.specs.Outcomes.{deciding, is_cause}
 use Rattle.up_model.specs.Plans.{ends_at_sink}
-use Rattle.up_model.specs.WellFormed.{IsWellFormed}
 use Rattle.up_model.specs.declared.graph.Graph.{Graph}
 use Rattle.up_model.specs.declared.kind.Kind.{Kind}
 use Rattle.up_model.specs.declared.kind.Kind.TheVariants.{Source, Sink}
@@ -28,19 +26,18 @@ use Rattle.up_model.specs.declared.outcome.Outcome.{Outcome}
 use Rattle.up_model.specs.declared.outcome.Outcome.TheVariants as outcomes
 use Rattle.up_model.specs.declared.pipe.Pipe.{Pipe}
 use Rattle.up_model.specs.declared.tally.Tally.{Tally}
-use Rattle.up_outside.specs.Held.{Held}
 use Rattle.up_outside.specs.States.{DepotState}
 use Rattle.up_outside.specs.Told.{Then}
-use Rattle.up_outside.proofs.Told.{Then-map, always}
+use Rattle.up_outside.proofs.Told.{Then-map}
 use Rattle.up_shape.specs.Stores.{StoreState}
-use Rattle.upipe_run.specs.Endings.{IsOfText, TellsOfEach, ending_by, ending_of, ending_told, refused_ending}
+use Rattle.upipe_run.specs.Endings.{IsOfText, ending_by, ending_of, ending_told, refused_ending}
 use Rattle.upipe_run.specs.GraphText.{IsStartAt}
 use Rattle.upipe_run.specs.Runs.{HasCauses, KeepsOtherPaths, RanFile, ReadsFile, RefusedFile}
 use Rattle.upipe_run.specs.WholeOutput.{IsWholeOutput, RanWhole}
 use Rattle.upipe_run.specs.declared.ending.Ending.{Ending}
 use Rattle.upipe_run.specs.declared.ending.Ending.TheVariants as endings
 use Rattle.upipe_run.proofs.Deciding.{each_told, no_cause, none_decides}
-use Rattle.upipe_run.proofs.Texts.{at_graph, has_graph_told, is_of_graph, no_graph_told}
+use Rattle.upipe_run.proofs.Texts.{at_graph, is_of_graph, no_graph_told}
 use Rattle.upipe_run.proofs.WholeRuns.{whole_output}
 
 module _ (path : List ℕ) (old new : DepotState) where
@@ -109,15 +106,7 @@ module _ (pipes : List Pipe) where
       subst (HasPathAt pipes) (get_or_from_slice_get (of_pipes.path_places pipes) count place 0 at)
       (path_place_stands pipes count (slice_get_within (of_pipes.path_places pipes) count place at))
 
--- the endings of pipes whose run stopped at a refused open, or went through, are told of each
 module _ {F : Type 0} (pipes : List Pipe) (old new : DepotState) (drew draws : StoreState F) where
-  pub tells_of_each : (outcome : RunOutcome) → RanGraph pipes old new drew draws outcome → TellsOfEach pipes outcome
-  tells_of_each runs.NoMemory ran = tt
-  tells_of_each (runs.Ended ends tallies) ran = elim ran.to [
-    | inl (ways, through) ↦ ap length through.endings ∙ each_told pipes (ending pipes ways)
-    | inr stopped ↦ ap length stopped.endings ∙ each_told pipes (ending_refused pipes stopped.place stopped.shut)
-  ]
-
   -- a refused open is a cause
   pub refused_told : (ends : List Outcome) (tallies : List Tally) → StoppedThere pipes old new ends tallies
       → ending_told pipes ends (deciding ends) ≡ endings.Whole → ⊥

@@ -1,27 +1,24 @@
 -- What follows of what a run does.
-use Rattle.std.proofs.Common.{◌≡◌, ◌⊎◌, inl, inr, ℕ, ◌+◌, ◌<◌, ◌≤◌, List, [], ◌∷◌, ◌++◌, length, map, true, false, Bool, slice_get, Option, Some, None, IfSome, Result, Ok, Err, refl, sym, ap, subst, ◌∙◌, arith, append_assoc, length-append}
+use Rattle.std.proofs.Common.{◌≡◌, ◌⊎◌, inl, inr, ℕ, ◌<◌, List, [], ◌∷◌, length, map, true, false, slice_get, Option, Some, None, IfSome, Result, Ok, Err, refl, sym, ap, subst, ◌∙◌, arith, append_assoc, length-append}
 use Rattle.std.specs.FinMap.{get}
 use Rattle.std.specs.List.{All, Contains}
-use Rattle.std.proofs.lemmas.Bool.{cases_lt, lt-ltb, le-ltb}
+use Rattle.std.proofs.lemmas.Bool.{lt-ltb}
 use Rattle.std.proofs.lemmas.List.Elements.{All-contains, All-contains_itself, All-weaker, All-head, All-tail}
 use Rattle.up_base.specs.Lists.{IsPrefix}
 use Rattle.up_engine.specs.Entries.{entries_at, entry_at, path_places}
-use Rattle.up_engine.specs.Runs.{Marked, RanGraph, RanThrough, Ways}
+use Rattle.up_engine.specs.Runs.{Marked, Ways}
 use Rattle.up_graph.specs.Graph.{graph_of}
 use Rattle.up_graph.specs.declared.graph_refused.GraphRefused.{GraphRefused}
 use Rattle.up_graph.specs.declared.graph_refused.GraphRefused.TheVariants as refusals
 use Rattle.up_model.proofs.WellFormed.{there}
-use Rattle.up_model.specs.Outcomes.{outcome_of}
 use Rattle.up_model.specs.declared.form.SourceForm.{SourceForm}
 use Rattle.up_model.specs.declared.form.SourceForm.TheVariants.{Raw}
 use Rattle.up_model.specs.declared.graph.Graph.{Graph}
 use Rattle.up_model.specs.declared.kind.Kind.{Kind}
 use Rattle.up_model.specs.declared.kind.Kind.TheVariants.{Source}
-use Rattle.up_model.specs.declared.outcome.Outcome.{Outcome}
 use Rattle.up_model.specs.declared.outcome.Outcome.TheVariants as outcomes
 use Rattle.up_model.specs.declared.pipe.Pipe.{Pipe}
 use Rattle.up_outside.specs.Asked.{entry}
-use Rattle.up_outside.specs.Counts.{Rose}
 use Rattle.up_outside.specs.Held.{Held}
 use Rattle.up_outside.specs.Told.{Then}
 use Rattle.up_outside.specs.declared.asked.Entry.{Entry}
@@ -29,12 +26,9 @@ use Rattle.up_outside.specs.declared.asked.Mark.{Mark}
 use Rattle.up_outside.specs.declared.asked.Mark.TheVariants.{Refused, Open, Closed}
 use Rattle.up_outside.specs.declared.asked.Side.TheVariants as sides
 use Rattle.up_report.specs.Faults.{status_of}
-use Rattle.up_report.specs.declared.fault.Fault.{Fault}
 use Rattle.up_report.specs.declared.fault.Fault.TheVariants as faults
-use Rattle.upipe_run.specs.Endings.{IsOfText, ending_of}
-use Rattle.upipe_run.specs.GraphText.{AsksText}
+use Rattle.upipe_run.specs.Endings.{IsOfText}
 use Rattle.upipe_run.specs.Laws.{AsksAll, Completes, IsRunStatus, OpensAll, SettlesStatus}
-use Rattle.upipe_run.specs.OfGraph.{WithoutGraph}
 use Rattle.upipe_run.specs.Runs.{HasCauses, HasGraph, HasNoGraph, RanFile, Runs}
 use Rattle.upipe_run.specs.Seen.{Seen}
 use Rattle.upipe_run.specs.Tells.{TellsEnding}
@@ -42,7 +36,8 @@ use Rattle.upipe_run.specs.WholeOutput.{IsWholeSource, CanComplete}
 use Rattle.upipe_run.specs.declared.ending.Ending.{Ending}
 use Rattle.upipe_run.specs.declared.ending.Ending.TheVariants.{Whole, Faulty, NoMemory}
 use Rattle.up_outside.proofs.Told.{Then-map, Then-trans, always}
-use Rattle.upipe_run.proofs.Decided.{RanLong, ran_long, read_rose, write_rose}
+use Rattle.upipe_run.proofs.Decided.{ran_long, read_rose, write_rose}
+use Rattle.upipe_run.proofs.Drained.{told_status}
 use Rattle.upipe_run.proofs.RanFiles.{WentThrough, paths_within, whole_through}
 
 same_bytes : (a b : List ℕ) → Some a ≡ Some b → a ≡ b
@@ -165,17 +160,17 @@ module _ (path : List ℕ) (old new : Seen) where
   of_status NoMemory status causes tells = inr (inr (inr (inr (inl tells.status_is))))
   of_status (Faulty faults.Usage) status causes tells = absurd causes
   of_status (Faulty (faults.Graph refusal)) status causes tells =
-      elim (refusal_status refusal status causes.of_text tells.status_is) [ inl three ↦ inr (inl three) | inr seven ↦ inr (inr (inr (inr (inl seven)))) ]
+      elim (refusal_status refusal status causes.of_text (told_status tells)) [ inl three ↦ inr (inl three) | inr seven ↦ inr (inr (inr (inr (inl seven)))) ]
   of_status (Faulty faults.ReadGraph) status causes tells =
-      elim tells.status_is [ inl same ↦ inr (inr (inl same)) | inr seven ↦ inr (inr (inr (inr (inl seven)))) ]
+      elim (told_status tells) [ inl same ↦ inr (inr (inl same)) | inr seven ↦ inr (inr (inr (inr (inl seven)))) ]
   of_status (Faulty (faults.Read name)) status causes tells =
-      elim tells.status_is [ inl same ↦ inr (inr (inl same)) | inr seven ↦ inr (inr (inr (inr (inl seven)))) ]
+      elim (told_status tells) [ inl same ↦ inr (inr (inl same)) | inr seven ↦ inr (inr (inr (inr (inl seven)))) ]
   of_status (Faulty (faults.Write name)) status causes tells =
-      elim tells.status_is [ inl same ↦ inr (inr (inr (inl same))) | inr seven ↦ inr (inr (inr (inr (inl seven)))) ]
+      elim (told_status tells) [ inl same ↦ inr (inr (inr (inl same))) | inr seven ↦ inr (inr (inr (inr (inl seven)))) ]
   of_status (Faulty faults.WriteReport) status causes tells = absurd causes
   of_status (Faulty (faults.BadFrame name offset)) status causes tells = absurd causes
   of_status (Faulty (faults.TooLong name limit)) status causes tells =
-      elim tells.status_is [ inl same ↦ inr (inr (inr (inr (inr same)))) | inr seven ↦ inr (inr (inr (inr (inl seven)))) ]
+      elim (told_status tells) [ inl same ↦ inr (inr (inr (inr (inr same)))) | inr seven ↦ inr (inr (inr (inr (inl seven)))) ]
 
   pub has_status : (status : ℕ) → Runs path old new status → IsRunStatus status
   has_status status runs = of_status runs.explained.ending status runs.explained.causes runs.explained.fault_text
@@ -189,8 +184,8 @@ module _ (path : List ℕ) (old new : Seen) where
     settled Whole status causes tells = absurd (no_run _ causes)
     settled NoMemory status causes tells = inr (inr tells.status_is)
     settled (Faulty faults.Usage) status causes tells = absurd causes
-    settled (Faulty (faults.Graph other)) status causes tells = elim (refusal_status other status causes.of_text tells.status_is) [ inl three ↦ inl three | inr seven ↦ inr (inr seven) ]
-    settled (Faulty faults.ReadGraph) status causes tells = inr tells.status_is
+    settled (Faulty (faults.Graph other)) status causes tells = elim (refusal_status other status causes.of_text (told_status tells)) [ inl three ↦ inl three | inr seven ↦ inr (inr seven) ]
+    settled (Faulty faults.ReadGraph) status causes tells = inr (told_status tells)
     settled (Faulty (faults.Read name)) status causes tells = absurd (no_run _ causes)
     settled (Faulty (faults.Write name)) status causes tells = absurd (no_run _ causes)
     settled (Faulty faults.WriteReport) status causes tells = absurd causes
@@ -245,13 +240,13 @@ module _ (path : List ℕ) (old new : Seen) where
   asked_by before NoMemory status told causes tells is = other_status status _ (inr (inr (inr tells.status_is))) is
   asked_by before (Faulty faults.Usage) status told causes tells is = absurd causes
   asked_by before (Faulty (faults.Graph refusal)) status told causes tells is =
-      other_status status _ (elim (refusal_status refusal status causes.of_text tells.status_is) [ inl three ↦ inl three | inr seven ↦ inr (inr (inr seven)) ]) is
+      other_status status _ (elim (refusal_status refusal status causes.of_text (told_status tells)) [ inl three ↦ inl three | inr seven ↦ inr (inr (inr seven)) ]) is
   asked_by before (Faulty faults.ReadGraph) status told causes tells is =
-      other_status status _ (elim tells.status_is [ inl four ↦ inr (inl four) | inr seven ↦ inr (inr (inr seven)) ]) is
+      other_status status _ (elim (told_status tells) [ inl four ↦ inr (inl four) | inr seven ↦ inr (inr (inr seven)) ]) is
   asked_by before (Faulty (faults.Read name)) status told causes tells is =
-      other_status status _ (elim tells.status_is [ inl four ↦ inr (inl four) | inr seven ↦ inr (inr (inr seven)) ]) is
+      other_status status _ (elim (told_status tells) [ inl four ↦ inr (inl four) | inr seven ↦ inr (inr (inr seven)) ]) is
   asked_by before (Faulty (faults.Write name)) status told causes tells is =
-      other_status status _ (elim tells.status_is [ inl five ↦ inr (inr (inl five)) | inr seven ↦ inr (inr (inr seven)) ]) is
+      other_status status _ (elim (told_status tells) [ inl five ↦ inr (inr (inl five)) | inr seven ↦ inr (inr (inr seven)) ]) is
   asked_by before (Faulty faults.WriteReport) status told causes tells is = absurd causes
   asked_by before (Faulty (faults.BadFrame name offset)) status told causes tells is = absurd causes
 

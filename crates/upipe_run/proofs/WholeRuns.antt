@@ -1,17 +1,17 @@
 -- A run without a cause: every source gave all bytes at its path, and every sink has all of its own.
-use Rattle.std.proofs.Common.{◌≡◌, ℕ, ◌<◌, ◌≤◌, List, [], ◌++◌, length, map, Bool, true, false, Option, Some, None, IfSome, slice_get, refl, sym, ap, subst, ◌∙◌, arith, inl, inr, cond}
+use Rattle.std.proofs.Common.{◌≡◌, ℕ, List, [], length, Bool, true, false, Option, Some, None, slice_get, refl, sym, ap, ◌∙◌, inl, inr}
 use Rattle.std.specs.Prelude.{option_and_then, unwrap_or}
 use Rattle.std.specs.FinMap.{get}
 use Rattle.std.specs.Option.{option_map_or}
 use Rattle.std.proofs.Math.Path.{fun_ext}
 use Rattle.std.proofs.lemmas.Bool.{cases_Bool, cases_lt, lt-ltb, le-ltb}
-use Rattle.up_engine.specs.Runs.{Ways, ending, carried, due_of, due_at, Gave, Wrote, RanThrough}
+use Rattle.up_engine.specs.Runs.{Ways, ending, carried, due_of, due_at, held_bytes, Gave, Wrote}
 use Rattle.up_model.proofs.Members.{passing_pipe}
 use Rattle.up_model.specs.Ends.{is_sink, is_source}
 use Rattle.up_model.specs.Inputs.{ends_at_source, passes_at, source_of}
 use Rattle.up_model.specs.Meaning.{flow_by, sink_bytes, taken_by, to_sources, wholly}
 use Rattle.up_model.specs.Kinds.{written_of}
-use Rattle.up_model.specs.Outcomes.{carried_as, is_cause, own_at, own_outcome, source_outcome, source_outcome_at}
+use Rattle.up_model.specs.Outcomes.{carried_as, is_cause, own_at, own_outcome, source_flows, source_outcome, source_outcome_at}
 use Rattle.up_model.specs.Packet.{Flow}
 use Rattle.up_model.specs.declared.form.SinkForm.{SinkForm}
 use Rattle.up_model.specs.declared.form.SourceForm.{SourceForm}
@@ -19,10 +19,10 @@ use Rattle.up_model.specs.declared.form.SourceForm.TheVariants.{Raw}
 use Rattle.up_model.specs.declared.kind.Kind.{Kind}
 use Rattle.up_model.specs.declared.kind.Kind.TheVariants.{Source, Sink}
 use Rattle.up_model.specs.declared.outcome.Outcome.{Outcome}
-use Rattle.up_model.specs.declared.outcome.Outcome.TheVariants.{Whole, TooLong}
+use Rattle.up_model.specs.declared.outcome.Outcome.TheVariants.{Whole}
 use Rattle.up_model.specs.declared.pipe.Pipe.{Pipe}
 use Rattle.up_outside.specs.Held.{Held}
-use Rattle.upipe_run.specs.WholeOutput.{IsWholeOutput, IsWholeSink, IsWholeSource, given_by}
+use Rattle.upipe_run.specs.WholeOutput.{IsWholeOutput, IsWholeSink, IsWholeSource}
 
 -- a source without a cause: no read failed, and its bytes are within its limit
 pub source_clean : (path : List ℕ) (form : SourceForm) (limit : ℕ) (failed : Bool) (bytes : List ℕ) (behind : Outcome)
@@ -92,18 +92,18 @@ module _ (pipes : List Pipe) (ways : Ways)
 
     -- what a source carried is the flow of the bytes at its path
     same_flow : (place : ℕ) (pipe : Pipe) → slice_get pipes place ≡ Some pipe → (kind : Kind) → pipe.kind ≡ kind → is_source kind ≡ true
-        → carried pipes ways place ≡ given_by held pipes place
+        → carried pipes ways place ≡ source_flows pipes (held_bytes held pipes) place
     same_flow place pipe there (Source path form limit) is source =
         let all = gave_all place pipe path form limit there is in
         let one : carried pipes ways place ≡ carried_as Whole (Source path form limit) (ways.given place) =
         ap (λ (outcome : Outcome). option_map_or (λ (pipe : Pipe). carried_as outcome pipe.kind (ways.given place)) (slice_get pipes place) []) all.whole
         ∙ rw (there, is) refl in
-        let other : given_by held pipes place ≡ carried_as Whole (Source path form limit) (ways.given place) =
-        rw there (rw is (rw all.held_there (ap (λ (outcome : Outcome). carried_as outcome (Source path form limit) (ways.given place)) all.within))) in
+        let other : source_flows pipes (held_bytes held pipes) place ≡ carried_as Whole (Source path form limit) (ways.given place) =
+        rw (there, is, all.held_there) refl in
         one ∙ sym other
     same_flow place pipe there kind is source = absurd (cc)
 
-    fed_same : to_sources pipes (carried pipes ways) ≡ to_sources pipes (given_by held pipes)
+    fed_same : to_sources pipes (carried pipes ways) ≡ to_sources pipes (source_flows pipes (held_bytes held pipes))
     fed_same = fun_ext (λ place. elim (cases_Bool (passes_at ends_at_source pipes place)) [
       | inl passes ↦
           let here = passing_pipe ends_at_source pipes place passes in
@@ -111,7 +111,7 @@ module _ (pipes : List Pipe) (ways : Ways)
       | inr fails ↦ rw fails refl
     ])
 
-    same_bytes : (sink : Pipe) → sink_bytes pipes (carried pipes ways) sink ≡ sink_bytes pipes (given_by held pipes) sink
+    same_bytes : (sink : Pipe) → sink_bytes pipes (carried pipes ways) sink ≡ sink_bytes pipes (source_flows pipes (held_bytes held pipes)) sink
     same_bytes sink = ap (λ (fed : ℕ → Option Flow). written_of sink.kind (taken_by pipes (flow_by wholly pipes fed) sink)) fed_same
 
     module _ (after : Held) (shut : (place : ℕ) → ways.shut place ≡ false → ways.failed place ≡ true)
@@ -123,7 +123,7 @@ module _ (pipes : List Pipe) (ways : Ways)
       ]
 
       sink_is : (place : ℕ) (pipe : Pipe) → slice_get pipes place ≡ Some pipe → (kind : Kind) → pipe.kind ≡ kind
-          → IsWholeSink after (sink_bytes pipes (given_by held pipes) pipe) kind
+          → IsWholeSink after (sink_bytes pipes (source_flows pipes (held_bytes held pipes)) pipe) kind
       sink_is place pipe there (Sink path form) is =
           let clean = sink_clean path form (ways.failed place) (ways.given place) _ (rw (there, is) at (none place pipe there)) in
           let lies = (wrote place pipe there (rw is refl)).there path (rw is refl) (is_shut place clean) in

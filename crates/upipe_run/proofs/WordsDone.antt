@@ -1,15 +1,16 @@
 -- What is done for the words, by the job that was read of them.
-use Rattle.std.proofs.Common.{◌≡◌, ℕ, ◌+◌, ◌^◌, ◌-◌, ◌≤◌, min, false, true, List, Option, Some, None, Ok, Err, inl, inr, refl, sym, subst, ◌∙◌, arith}
+use Rattle.std.proofs.Common.{◌≡◌, ℕ, false, List, Option, Some, None, Ok, Err, inl, inr, refl, sym, subst, ◌∙◌, arith}
 use Rattle.up_outside.specs.Counts.{CountsWhere}
 use Rattle.up_outside.specs.States.{DepotState, SinkState}
 use Rattle.up_outside.specs.Told.{Then}
+use Rattle.up_report.specs.declared.fault.Fault.TheVariants.{Usage}
 use Rattle.up_words.specs.Words.{IsRead}
 use Rattle.up_words.specs.declared.job.Job.{Job}
 use Rattle.up_words.specs.declared.job.Job.TheVariants.{Run}
 use Rattle.up_words.specs.declared.read.WordsRefused.TheVariants as words
-use Rattle.upipe_run.specs.Runs.{Does, KeepsOtherPaths, Runs}
+use Rattle.upipe_run.specs.Runs.{Does, IsExplained, KeepsOtherPaths, KeepsPaths, Runs, WritesWhole}
 use Rattle.upipe_run.specs.Seen.{Seen, seen}
-use Rattle.upipe_run.specs.Tells.{TellsNoMemory}
+use Rattle.upipe_run.specs.Tells.{TellsFault, TellsNoMemory}
 use Rattle.upipe_run.specs.declared.ending.Ending.TheVariants.{NoMemory}
 
 -- what is told stands so to itself
@@ -39,9 +40,16 @@ does_no_memory (Some (Run path)) depot out old new status read tells = record {
   };
 }
 
+-- the words aren't taken
+pub does_usage : (job : Option Job) (depot : DepotState) (out old new : SinkState) (status : ℕ) → IsRead job (Err words.Usage) → TellsFault old new Usage status
+    → Does job (seen depot out old) (seen depot out new) status
+does_usage None depot out old new status read tells = record { asks_nothing = refl; report_text = refl; fault_text = tells }
+does_usage (Some (Run path)) depot out old new status read tells = absurd read
+
 -- a path was run
-pub does_run : (job : Option Job) (path : List ℕ) (old new : Seen) (status : ℕ) → IsRead job (Ok (Run path)) → Runs path old new status → Does job old new status
-does_run None path old new status read runs = absurd read
-does_run (Some (Run other)) path old new status read runs =
+pub does_run : (job : Option Job) (path : List ℕ) (old new : Seen) (status : ℕ) → IsRead job (Ok (Run path)) → WritesWhole path old new status
+    → KeepsPaths path old new → new.out ≡ old.out → IsExplained path old new status → Does job old new status
+does_run None path old new status read whole others text explained = absurd read
+does_run (Some (Run other)) path old new status read whole others text explained =
     let same : path ≡ other = cc in
-    subst (λ (p : List ℕ). Runs p old new status) same runs
+    subst (λ (p : List ℕ). Runs p old new status) same (record { whole_output = whole; others_stay = others; report_text = text; explained = explained })

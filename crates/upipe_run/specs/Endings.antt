@@ -1,5 +1,5 @@
 -- How a run ended, and which pipe decides it.
-use Rattle.std.specs.Prelude.{◌≡◌, ℕ, List, length, slice_get, slice_index_or, Option, Some, None}
+use Rattle.std.specs.Prelude.{ℕ, List, slice_get, slice_index_or, Option, Some, None}
 use Rattle.std.specs.Option.{option_map_or}
 use Rattle.up_engine.specs.declared.run_outcome.RunOutcome.{RunOutcome}
 use Rattle.up_engine.specs.declared.run_outcome.RunOutcome.TheVariants as runs
@@ -12,6 +12,8 @@ use Rattle.up_model.specs.declared.pipe.Pipe.{Pipe}
 use Rattle.up_report.specs.declared.fault.Fault.TheVariants.{Graph, Read, Write, TooLong}
 use Rattle.upipe_run.specs.declared.ending.Ending.{Ending}
 use Rattle.upipe_run.specs.declared.ending.Ending.TheVariants.{Whole, Faulty, NoMemory}
+use Rattle.upipe_run.specs.declared.program.FileRun.{FileRun}
+use Rattle.upipe_run.specs.declared.program.FileRun.TheVariants as files
 
 -- want of memory isn't a refusal of the text
 abbrev pub IsOfText : GraphRefused → Type 0
@@ -42,7 +44,8 @@ abbrev pub ending_of : List Pipe → RunOutcome → Ending
 ending_of pipes (runs.Ended ends tallies) = ending_told pipes ends (deciding ends)
 ending_of pipes runs.NoMemory = NoMemory
 
--- it tells of each pipe
-abbrev pub TellsOfEach : List Pipe → RunOutcome → Type 0
-TellsOfEach pipes (runs.Ended ends tallies) = length ends ≡ length pipes
-TellsOfEach pipes runs.NoMemory = Unit {0}
+-- the ending that came of a graph file
+abbrev pub ending_came : FileRun → Ending
+ending_came (files.Ended graph outcomes) =
+    ending_told graph.pipes outcomes (deciding outcomes)
+ending_came (files.Stopped ending) = ending

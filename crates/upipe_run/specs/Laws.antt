@@ -4,13 +4,10 @@ use Rattle.std.specs.FinMap.{get}
 use Rattle.std.specs.List.{Contains}
 use Rattle.up_base.specs.Lists.{IsPrefix}
 use Rattle.up_engine.specs.Entries.{entries_at, path_places}
-use Rattle.up_engine.specs.Runs.{held_bytes}
 use Rattle.up_engine.specs.declared.run_outcome.RunOutcome.{RunOutcome}
 use Rattle.up_engine.specs.declared.run_outcome.RunOutcome.TheVariants as runs
 use Rattle.up_model.specs.Ends.{is_sink, path_of}
 use Rattle.up_model.specs.Inputs.{places}
-use Rattle.up_model.specs.Meaning.{sink_bytes}
-use Rattle.up_model.specs.Outcomes.{source_flows}
 use Rattle.up_model.specs.declared.outcome.Outcome.TheVariants as outcomes
 use Rattle.up_model.specs.declared.pipe.Pipe.{Pipe}
 use Rattle.up_outside.specs.Asked.{entry}
@@ -25,7 +22,7 @@ use Rattle.up_outside.specs.declared.asked.Side.TheVariants.{Source, Sink}
 use Rattle.upipe_run.specs.OfGraph.{OfGraph, WithoutGraph}
 use Rattle.upipe_run.specs.Runs.{RanFile}
 use Rattle.upipe_run.specs.Seen.{Seen}
-use Rattle.upipe_run.specs.WholeOutput.{CanComplete}
+use Rattle.upipe_run.specs.WholeOutput.{CanComplete, meant_bytes}
 use Rattle.upipe_run.specs.declared.ending.Ending.TheVariants.{Whole}
 
 -- 0 whole, 3 no graph, 4 a read fault, 5 a write fault, 7 want of memory, 8 a source that is too long
@@ -93,7 +90,7 @@ pub record LiesFirst (pipes : List Pipe) (before after : Held) (path : List ℕ)
   pub on_path : path_of pipe.kind ≡ Some path
   pub bytes : List ℕ
   pub held : get after path ≡ Some bytes
-  pub first : IsPrefix bytes (sink_bytes pipes (source_flows pipes (held_bytes before pipes)) pipe)
+  pub first : IsPrefix bytes (meant_bytes before pipes pipe)
 
 -- so it is of each path that is told by these entries to be a sink's, closed with an Ok close
 abbrev pub LeavesFirst : List ℕ → Held → Held → List Entry → Type 0

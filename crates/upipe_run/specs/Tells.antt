@@ -1,5 +1,5 @@
 -- What is printed of an ending.
-use Rattle.std.specs.Prelude.{◌≡◌, ◌≢◌, ◌⊎◌, ℕ, ◌<◌, List, length, take}
+use Rattle.std.specs.Prelude.{◌≡◌, ◌⊎◌, ℕ, ◌<◌, List, length, take}
 use Rattle.std.specs.Io.KnownBytes.{Appends}
 use Rattle.up_outside.specs.Counts.{Rose}
 use Rattle.up_outside.specs.States.{SinkState}
@@ -23,20 +23,29 @@ module _ (old new : SinkState) where
   abbrev pub WritesLine : List ℕ → Type 0
   WritesLine line = AppendsLine line ⊎ (AppendsPart line × Rose old.faults new.faults)
 
-  -- so it was, or a part of it was written before memory ran out
-  abbrev pub WritesSome : List ℕ → Type 0
-  WritesSome line = WritesLine line ⊎ (AppendsPart line × (new.faults ≡ old.faults))
+  -- memory ran out before the end of the line: a part of it was written, and no write failed
+  abbrev pub CutsLine : List ℕ → Type 0
+  CutsLine line = AppendsPart line × (new.faults ≡ old.faults)
 
-  -- The status and the line are the fault's. Where memory runs out for the line, the status is 7, and some of it or of
-  -- the line of want of memory was written.
-  pub record TellsFault (fault : Fault) (status : ℕ) : Type 0 where
-    pub status_is : (status ≡ status_of fault) ⊎ (status ≡ 7)
-    pub line : status ≢ 7 → WritesLine (fault_bytes fault)
-    pub some : WritesSome (fault_bytes fault) ⊎ ((status ≡ 7) × WritesSome no_memory_bytes)
+  -- the status and the line are the fault's
+  pub record TellsLine (fault : Fault) (status : ℕ) : Type 0 where
+    pub status_is : status ≡ status_of fault
+    pub line : WritesLine (fault_bytes fault)
 
+  -- memory ran out before the end of the fault's line: the status is 7
+  pub record TellsPart (fault : Fault) (status : ℕ) : Type 0 where
+    pub status_is : status ≡ 7
+    pub line : CutsLine (fault_bytes fault)
+
+  -- the status is 7, and the line is that of want of memory, as far as the sink took it
   pub record TellsNoMemory (status : ℕ) : Type 0 where
     pub status_is : status ≡ 7
-    pub some : WritesSome no_memory_bytes
+    pub line : WritesLine no_memory_bytes ⊎ CutsLine no_memory_bytes
+
+  -- a fault is told by its status and its line; where memory runs out for that, a part of its line was written or want of memory is told
+  abbrev pub TellsFault : Fault → ℕ → Type 0
+  TellsFault fault status =
+      TellsLine fault status ⊎ (TellsPart fault status ⊎ TellsNoMemory status)
 
   -- nothing is printed of a whole run
   abbrev pub TellsEnding : Ending → ℕ → Type 0

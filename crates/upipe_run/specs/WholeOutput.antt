@@ -1,29 +1,15 @@
 -- What a whole run leaves: each sink's path has the bytes that the graph gives it, by what the sources' paths had.
-use Rattle.std.specs.Prelude.{◌≡◌, ℕ, List, [], slice_get, Option, Some, None, unwrap_or}
+use Rattle.std.specs.Prelude.{◌≡◌, ℕ, List, slice_get, Some}
 use Rattle.std.specs.FinMap.{get}
+use Rattle.up_engine.specs.Runs.{held_bytes}
 use Rattle.up_model.specs.Meaning.{sink_bytes}
-use Rattle.up_model.specs.Packet.{Flow}
-use Rattle.up_model.specs.Outcomes.{outcome_of, carried_flow}
+use Rattle.up_model.specs.Outcomes.{outcome_of, source_flows}
 use Rattle.up_model.specs.declared.kind.Kind.{Kind}
 use Rattle.up_model.specs.declared.kind.Kind.TheVariants.{Source, Sink}
 use Rattle.up_model.specs.declared.outcome.Outcome.TheVariants.{Whole}
 use Rattle.up_model.specs.declared.pipe.Pipe.{Pipe}
 use Rattle.up_outside.specs.Held.{Held}
 use Rattle.upipe_run.specs.OfGraph.{IsOfGraph}
-
--- the flow of a source, which counts with all of the bytes at its path
-abbrev pub flow_by : Held → Kind → Flow
-flow_by held (Source path form limit) =
-    carried_flow (Source path form limit) (unwrap_or (get held path) [])
-flow_by held kind = []
-
-abbrev pub flow_of : Held → Option Pipe → Flow
-flow_of held None = []
-flow_of held (Some pipe) = flow_by held pipe.kind
-
--- the flow of each source, by its place
-abbrev pub given_by : Held → List Pipe → ℕ → Flow
-given_by held pipes place = flow_of held (slice_get pipes place)
 
 -- a source's path is held, and its bytes are within its limit
 abbrev pub IsWholeSource : Held → Kind → Type 0
@@ -37,12 +23,16 @@ abbrev pub IsWholeSink : Held → List ℕ → Kind → Type 0
 IsWholeSink held wanted (Sink path form) = get held path ≡ Some wanted
 IsWholeSink held wanted kind = Unit {0}
 
+-- the bytes that the graph gives a sink, where each source counts with all of the bytes at its path
+abbrev pub meant_bytes : Held → List Pipe → Pipe → List ℕ
+meant_bytes held pipes sink = sink_bytes pipes (source_flows pipes (held_bytes held pipes)) sink
+
 -- every source's outcome is whole, and every sink's path has all its bytes
 pub record IsWholeOutput (before after : Held) (pipes : List Pipe) : Type 0 where
   pub sources : (place : ℕ) (pipe : Pipe) → slice_get pipes place ≡ Some pipe
       → IsWholeSource before pipe.kind
   pub sinks : (place : ℕ) (pipe : Pipe) → slice_get pipes place ≡ Some pipe
-      → IsWholeSink after (sink_bytes pipes (given_by before pipes) pipe) pipe.kind
+      → IsWholeSink after (meant_bytes before pipes pipe) pipe.kind
 
 -- the text at the path has a graph, whose output is whole
 abbrev pub RanWhole : List ℕ → Held → Held → Type 0

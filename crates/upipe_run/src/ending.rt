@@ -1,9 +1,8 @@
 ghost use Rattle.std.specs.Prelude.{◌≡◌};
-ghost use Rattle.upipe_run.specs.Endings.{TellsOfEach, ending_by, ending_of, refused_ending};
+ghost use Rattle.upipe_run.specs.Endings.{ending_by, ending_told, refused_ending};
 
-use up_engine::RunOutcome;
 use up_graph::GraphRefused;
-use up_model::{Graph, Outcome, Pipe, deciding};
+use up_model::{Outcome, OutcomeList, Pipe, PipeList};
 use up_report::Fault;
 
 /// How a run ended.
@@ -42,20 +41,20 @@ fn ending_by(pipe: &Pipe, outcome: Outcome) -> Ending
     }
 }
 
-/// The ending of a graph whose run came to this: the first pipe in the order of the file that has a cause decides.
-pub fn ending_of(graph: &Graph, outcome: RunOutcome) -> Ending
-    requires { TellsOfEach graph.now.pipes outcome }
-    ensures { result ≡ ending_of graph.now.pipes outcome }
+/// The ending of a graph whose pipes came to these, by the place of the pipe that decides it. A place of no pipe
+/// decides nothing.
+#[tactic(auto, using(crate::proofs::Deciding::past_pipes, crate::proofs::Deciding::past_ends))]
+pub fn ending_told(pipes: &PipeList, ends: &OutcomeList, decides: Option<usize>) -> Ending
+    ensures { result ≡ ending_told pipes.now ends.now decides }
 {
-    let RunOutcome::Ended {
-        outcomes,
-        tallies: _,
-    } = outcome
-    else {
-        return Ending::NoMemory;
+    let Some(place) = decides else {
+        return Ending::Whole;
     };
-    match deciding(&outcomes) {
-        Some(place) => ending_by(graph.pipes.at(place), *outcomes.at(place)),
-        None => Ending::Whole,
+    if pipes.len() <= place {
+        return Ending::Whole;
     }
+    if ends.len() <= place {
+        return Ending::Whole;
+    }
+    ending_by(pipes.at(place), *ends.at(place))
 }

@@ -1,6 +1,7 @@
-ghost use Rattle.upipe_run.specs.Tells.{TellsFault, TellsNoMemory};
+ghost use Rattle.upipe_run.specs.Tells.{TellsEnding, TellsFault, TellsNoMemory};
 
 use crate::drain::drain;
+use crate::ending::Ending;
 use std::alloc::Global;
 use up_base::{NoMemory, Refusal};
 use up_outside::Sink;
@@ -25,5 +26,16 @@ pub fn tell<E: Sink>(alloc: Global, err: &mut E, fault: &Fault) -> u8
             Err(Refusal::NoMemory) => 7,
         },
         Err(NoMemory) => tell_no_memory(err),
+    }
+}
+
+/// Writes what is told of an ending, and answers its status.
+pub fn tell_ending<E: Sink>(alloc: Global, err: &mut E, ending: &Ending) -> u8
+    ensures { TellsEnding (E.state err.old) (E.state err.new) ending.now result }
+{
+    match ending {
+        Ending::Whole => 0,
+        Ending::Faulty(fault) => tell(alloc, err, fault),
+        Ending::NoMemory => tell_no_memory(err),
     }
 }

@@ -1,5 +1,5 @@
-use Rattle.std.proofs.Common.{refl, subst}
-use Rattle.upipe_run.specs.Tells.{WritesSome}
+use Rattle.std.proofs.Common.{◌⊎◌, List, ℕ, refl, subst}
+use Rattle.upipe_run.specs.Tells.{CutsLine, WritesLine}
 use Rattle.upipe_run.proofs.Drained.{drained}
 use Rattle.upipe_run.proofs.tell.tell_no_memory.Goals as goal
 
@@ -9,6 +9,6 @@ returns g c =
     let new = g.E.Sink.state c.drain.new.sink in
     record {
       status_is = refl;
-      some = subst (WritesSome old new) c.as_bytes.ensures.value
+      line = subst (λ (line : List ℕ). WritesLine old new line ⊎ CutsLine old new line) c.as_bytes.ensures.value
           (drained old new _ c.drain.result c.drain.ensures.whole c.drain.ensures.part c.drain.ensures.faults);
     }
