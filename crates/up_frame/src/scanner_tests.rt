@@ -170,7 +170,7 @@ fn frames_at_their_limits_are_scanned(rt: HostRuntime) -> Result<(), Fail> {
     set_all(&rt, &mut packet, &NAMES);
     assert_packet(&rt, alloc, &packet);
     let mut packet = fresh(&rt, alloc, b"");
-    set_opaque(&rt, &mut packet, "x", &vec![in alloc; 8; 4096]?);
+    set_opaque(&rt, &mut packet, b"x", &vec![in alloc; 8; 4096]?);
     assert_packet(&rt, alloc, &packet);
     Ok(())
 }
