@@ -78,7 +78,7 @@ impl FrameReader {
         ensures broken { self.new.broken ≡ self.old.broken }
     {
         let given = self.given;
-        if given < self.start && given < self.held.len() - given {
+        if given == 0 || (given < self.start && given < self.held.len() - given) {
             return;
         }
         self.given = 0;

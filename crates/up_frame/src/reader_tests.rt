@@ -44,7 +44,7 @@ fn rest_of(bytes: &[u8]) -> (usize, NotWhole) {
 }
 
 /// What a piece is answered up to which these bytes were fed.
-fn wanted_answer(bytes: &[u8]) -> Result<(), FeedRefused> {
+pub(crate) fn wanted_answer(bytes: &[u8]) -> Result<(), FeedRefused> {
     let (left, refused) = rest_of(bytes);
     match refused {
         NotWhole::Unfinished => Ok(()),
@@ -276,5 +276,6 @@ fn the_greatest_frame_is_read_whole_in_any_pieces(rt: HostRuntime) -> Result<(),
     for size in [188, 65_536, 2_000_000] {
         assert_late(&rt, alloc, bytes.as_slice(), size);
     }
+    assert_cut(&rt, alloc, bytes.as_slice(), 65_536);
     Ok(())
 }

@@ -1,4 +1,4 @@
-use Rattle.std.proofs.Common.{◌++◌, refl}
+use Rattle.std.proofs.Common.{◌++◌, Some, refl, ap, ◌∙◌, arith}
 use Rattle.up_frame.proofs.GivenFrames.{piece_counted}
 use Rattle.up_frame.proofs.frame_reader.FrameReader.feed.Goals as goal
 
@@ -12,4 +12,5 @@ returns-in-None-clause-fed c bytes given stands =
 
 pub returns-in-Some-judge-clause-fed : goal.returns-in-Some-judge-clause-fed
 returns-in-Some-judge-clause-fed c bytes given stands =
-    c.in-Some-judge.ensures.judged (bytes ++ c.args.piece.now) given (c.in-Ok.ensures.added bytes given (c.compact.ensures.stands bytes given stands))
+    let judged = c.in-Some-judge.ensures.judged (bytes ++ c.args.piece.now) given (c.in-Ok.ensures.added bytes given (c.compact.ensures.stands bytes given stands)) in
+    (judged.0, judged.1 ∙ ap Some (omega arith))
