@@ -3,12 +3,14 @@ pub mod Attributes
 pub mod Fields
 pub mod FoundFrames
 pub mod FrameExamples
+pub mod GivenFrames
 pub mod GoingOn
 pub mod MoreBytes
 pub mod Packets
 pub mod Parts
 pub mod ReadAttributes
 pub mod ScannedBytes
+pub mod SetAttributes
 pub mod Shorter
 pub mod Steady
 pub mod Streams

@@ -1,21 +1,11 @@
 -- Attributes that are passed over one by one.
 use Rattle.std.proofs.Common.{◌≡◌, ℕ, suc, ◌+◌, ◌-◌, ◌<◌, ◌≤◌, List, [], ◌∷◌, ◌++◌, Ok, Err, refl, sym, ap, ◌∙◌, append_assoc, append-nil, arith}
 use Rattle.up_frame.proofs.Fields.{found}
-use Rattle.up_frame.specs.Fronts.{Front, ◌>>=◌, field, number_at, is_size_of, is_value_of, value_of, value_at, attribute_at, attributes_at, is_any, content_at}
+use Rattle.up_frame.specs.Fronts.{Front, ◌>>=◌, field, attribute_at, attributes_at, is_any, content_at}
 use Rattle.up_frame.specs.declared.layout.NotWhole.{NotWhole}
-use Rattle.up_frame.specs.declared.layout.ValueType.{ValueType}
 use Rattle.up_model.proofs.AttrLists.{Attr, attrs_of}
 use Rattle.up_model.specs.declared.plain_packet.PlainPacket.{PlainPacket}
 use Rattle.up_model.specs.declared.value.Value.{Value}
-
--- a value is what its bytes are
-pub value_is : (type_ : ValueType) (bytes : List ℕ) (size : ℕ × List ℕ) (value : List ℕ × List ℕ)
-    → number_at 4 (is_size_of type_) bytes ≡ Ok size → field size.0 (is_value_of type_) size.1 ≡ Ok value
-    → value_at type_ bytes ≡ Ok (value_of type_ value.0, value.1)
-unfolding value_at
-value_is type_ bytes size value first second =
-    ap (λ (r : Front ℕ). r >>= λ size. field size.0 (is_value_of type_) size.1 >>= λ value. found (value_of type_ value.0, value.1)) first
-    ∙ ap (λ (r : Front (List ℕ)). r >>= λ value. found (value_of type_ value.0, value.1)) second
 
 -- what is read, behind attributes that were read before
 with_front : List Attr → Front (List Attr) → Front (List Attr)

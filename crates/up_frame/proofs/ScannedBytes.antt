@@ -36,7 +36,7 @@ passed_all bytes place refused before judged e on so_far = record {
   on = on;
 }
 
-rest_of_more : (bytes more : List ℕ) → rest_of_frames (bytes ++ more) ≡ rest_of_frames (rest_of_frames bytes ++ more)
+pub rest_of_more : (bytes more : List ℕ) → rest_of_frames (bytes ++ more) ≡ rest_of_frames (rest_of_frames bytes ++ more)
 rest_of_more bytes more = ap (λ (s : Stream). s.rest) (grown (length bytes) bytes more (omega arith))
 
 -- the rest of what was fed, with a piece more

@@ -1,7 +1,7 @@
 -- What stands behind a field or a frame is no longer than the bytes it stood in.
 use Rattle.std.proofs.Common.{◌≡◌, ℕ, zero, suc, ◌+◌, ◌<◌, ◌≤◌, Bool, eqb, leb, ltb, List, [], ◌∷◌, length, take, drop, Ok, ap, subst, arith}
 use Rattle.std.proofs.lemmas.Bool.{ltb-false}
-use Rattle.std.proofs.lemmas.List.{length-drop}
+use Rattle.std.proofs.lemmas.List.{length-drop, length-take-le}
 use Rattle.up_base.specs.Name.{is_within}
 use Rattle.up_base.specs.Number.{big_endian}
 use Rattle.up_base.specs.declared.name_text.TheConstants.{NAME_SIZE}
@@ -37,6 +37,12 @@ field_leaves size rule bytes x e =
     let long : size ≤ length bytes = ltb-false _ _ f.0 in
     let left : length (drop size bytes) + size ≡ length bytes = omega (arith, length-drop size bytes) in
     subst (λ (p : List ℕ × List ℕ). length p.1 + size ≡ length bytes) f.2 left
+
+-- a field has as many bytes as it should
+pub field_size : (size : ℕ) (rule : List ℕ → Bool) (bytes : List ℕ) (x : List ℕ × List ℕ) → field size rule bytes ≡ Ok x → length x.0 ≡ size
+field_size size rule bytes x e =
+    let f = field_found (ltb (length bytes) size) (rule (take size bytes)) (take size bytes, drop size bytes) x e in
+    subst (λ (p : List ℕ × List ℕ). length p.0 ≡ size) f.2 (length-take-le size bytes (ltb-false _ _ f.0))
 
 field_shrinks : (size : ℕ) (rule : List ℕ → Bool) → Shrinks (field size rule)
 field_shrinks size rule bytes x e = let left = field_leaves size rule bytes x e in omega (arith, left)

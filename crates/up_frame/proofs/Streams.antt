@@ -1,13 +1,14 @@
 -- Bytes as frames: the whole ones come one by one, and no others do.
-use Rattle.std.proofs.Common.{◌≡◌, ℕ, zero, suc, ◌<◌, ◌≤◌, List, [], ◌∷◌, ◌++◌, length, All, Ok, Err, refl, sym, ap, ◌∙◌, arith, ◌-◌, None}
-use Rattle.std.proofs.lemmas.List.Elements.{All-head, All-tail}
+use Rattle.std.proofs.Common.{◌≡◌, ℕ, zero, suc, ◌+◌, ◌<◌, ◌≤◌, List, [], ◌∷◌, ◌++◌, length, take, drop, All, Ok, Err, refl, sym, ap, ◌∙◌, append_assoc, arith, ◌-◌, None}
+use Rattle.std.proofs.lemmas.List.{length-append, length-drop, take_at}
+use Rattle.std.proofs.lemmas.List.Elements.{All-nil, All-cons, All-head, All-tail}
 use Rattle.up_base.specs.Number.{AreBytes}
 use Rattle.up_frame.proofs.Fields.{found, found_is}
 use Rattle.up_frame.proofs.Packets.{packet_takes, packet_again}
 use Rattle.up_frame.proofs.Shorter.{packet_shrinks}
 use Rattle.up_frame.specs.Fronts.{Front, packet_at}
 use Rattle.up_frame.specs.Spelling.{frame_of, frames_of}
-use Rattle.up_frame.specs.Streams.{IsFramed, HasNoFrame, Stream, behind, stream_by, stream_within, stream_of, rest_of_frames, broken_where, broken_at, place_of_some, cut_at}
+use Rattle.up_frame.specs.Streams.{IsFramed, HasNoFrame, Stream, behind, stream_by, stream_within, stream_of, whole_frames, rest_of_frames, broken_where, broken_at, place_of_some, cut_at}
 use Rattle.up_frame.specs.declared.layout.NotWhole.{NotWhole}
 use Rattle.up_frame.specs.declared.layout.NotWhole.TheVariants.{Unfinished}
 use Rattle.up_model.specs.Packet.{Flow, IsLegal}
@@ -115,3 +116,23 @@ neither bytes nothing = (
   ap (λ (r : List ℕ). broken_where (length bytes - length r) (packet_at r)) nothing ∙ ap (broken_where (length bytes - 0)) nothing_at_end,
   ap (λ (r : List ℕ). place_of_some (length bytes - length r) r) nothing,
 )
+
+-- bytes that are framed are the frames of legal packets, and the rest
+framed_parts : (flow : Flow) (bytes rest : List ℕ) → IsFramed bytes flow rest → All IsLegal flow × (bytes ≡ frames_of flow ++ rest)
+framed_parts [] bytes rest framed = (All-nil IsLegal, framed)
+framed_parts (packet ∷ flow) bytes rest framed =
+    let others = framed_parts flow framed.1.0 rest framed.1.2 in (
+      All-cons IsLegal packet flow framed.0 others.0,
+      framed.1.1 ∙ ap (λ (b : List ℕ). frame_of packet ++ b) others.1 ∙ sym (append_assoc (frame_of packet) (frames_of flow) rest),
+    )
+
+-- the bytes before the rest are the whole frames
+pub whole_front : (bytes : List ℕ) (place : ℕ) → AreBytes bytes → place ≤ length bytes → rest_of_frames bytes ≡ drop place bytes
+    → All IsLegal (whole_frames bytes) × (take place bytes ≡ frames_of (whole_frames bytes))
+whole_front bytes place below within rest =
+    let frames = frames_of (whole_frames bytes) in
+    let parts = framed_parts (whole_frames bytes) bytes (rest_of_frames bytes) (all_within (length bytes) bytes (omega arith) below).framed in
+    let joined : bytes ≡ frames ++ drop place bytes = parts.1 ∙ ap (λ (r : List ℕ). frames ++ r) rest in
+    let counted : length bytes ≡ length frames + length (drop place bytes) = ap length joined ∙ length-append frames (drop place bytes) in
+    let size : length frames ≡ place = omega (arith, counted, length-drop place bytes, within) in
+    (parts.0, ap (take place) joined ∙ take_at frames (drop place bytes) place size)

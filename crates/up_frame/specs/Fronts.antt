@@ -78,12 +78,17 @@ value_of types.Unsigned bytes = Unsigned (big_endian bytes)
 value_of types.Words bytes = Words bytes
 value_of types.Opaque bytes = Opaque bytes
 
+-- the bytes that were found, as a value of this type
+abbrev pub as_value : ValueType → Front (List ℕ) → Front Value
+as_value type_ front = do
+  value ← front
+  Ok (value_of type_ value.0, value.1)
+
 -- a value of this type, behind its length
 unfoldable pub value_at : ValueType → List ℕ → Front Value
 value_at type_ bytes = do
   size ← number_at 4 (is_size_of type_) bytes
-  value ← field size.0 (is_value_of type_) size.1
-  Ok (value_of type_ value.0, value.1)
+  as_value type_ (field size.0 (is_value_of type_) size.1)
 
 -- a name behind the one before, and its value
 unfoldable pub attribute_at : List ℕ → List ℕ → Front (List ℕ × Value)

@@ -1,10 +1,12 @@
 -- How far a frame was judged that isn't whole yet, and how it goes on from there.
-use Rattle.std.specs.Prelude.{◌≡◌, ℕ, List, [], ◌++◌, length, drop, Option, Some, None, Result, Ok, Err}
+use Rattle.std.specs.Prelude.{◌≡◌, ℕ, List, [], ◌++◌, length, take, drop, All, Option, Some, None, Result, Ok, Err}
 use Rattle.std.specs.FinMap.{from_sorted}
 use Rattle.up_frame.specs.Fronts.{Front, ◌>>=◌, field, is_any, attributes_at, packet_at}
-use Rattle.up_frame.specs.Streams.{rest_of_frames}
+use Rattle.up_frame.specs.Spelling.{frames_of}
+use Rattle.up_frame.specs.Streams.{whole_frames, rest_of_frames}
 use Rattle.up_frame.specs.declared.judged.Judged.{Judged}
 use Rattle.up_frame.specs.declared.layout.NotWhole.{NotWhole}
+use Rattle.up_model.specs.Packet.{IsLegal}
 use Rattle.up_model.specs.declared.plain_packet.PlainPacket.{PlainPacket}
 use Rattle.up_model.specs.declared.value.Value.{Value}
 
@@ -49,6 +51,11 @@ Leads (Err refused) bytes = packet_at bytes ≡ Err refused
 abbrev pub EndsAt : Result ℕ NotWhole → List ℕ → Type 0
 EndsAt (Ok place) bytes = (packet : PlainPacket) × (packet_at bytes ≡ Ok (packet, drop place bytes))
 EndsAt (Err refused) bytes = packet_at bytes ≡ Err refused
+
+-- the bytes before the place are the frames of the legal packets that are whole
+abbrev pub AreFramesBefore : ℕ → List ℕ → Type 0
+AreFramesBefore place bytes =
+    All IsLegal (whole_frames bytes) × (take place bytes ≡ frames_of (whole_frames bytes))
 
 -- the rest of the bytes begins at the place, why it is no whole frame, and how far it was judged
 pub record IsRest (bytes : List ℕ) (place : ℕ) (refused : NotWhole) (judged : Option Judged) : Type 0 where

@@ -2,6 +2,7 @@
 ghost use Rattle.std.specs.Prelude.{◌≡◌, ◌+◌, ◌<◌, ◌≤◌, length, IfOk, IfSome, None, Err};
 ghost use Rattle.up_frame.specs.Fronts.{packet_at};
 ghost use Rattle.up_frame.specs.Judging.{
+  AreFramesBefore,
   EndsAt,
   GoesOn,
   IsJudged,
@@ -52,7 +53,7 @@ fn next_attribute(bytes: &[u8], judged: Judged) -> Result<Judged, NotWhole>
     ensures fewer { IfOk result (λ next. next.left + 1 ≡ judged.left) }
     ensures front { GoesOn judged bytes.now → Leads result bytes.now }
 {
-    let (name, rest) = attribute(&bytes[judged.at..], last_name(&judged.before))?;
+    let (name, _, rest) = attribute(&bytes[judged.at..], last_name(&judged.before))?;
     Ok(Judged {
         at: bytes.len() - rest.len(),
         left: judged.left - 1,
@@ -119,6 +120,7 @@ pub(crate) fn rest_start(bytes: &[u8], judged: &mut Option<Judged>) -> (usize, N
     ensures within { result.0 + judged_place judged.new ≤ length bytes.now }
     ensures rest { IsJudged judged.old bytes.now
         → IsRest bytes.now result.0 result.1 judged.new }
+    ensures frames { IsJudged judged.old bytes.now → AreFramesBefore result.0 bytes.now }
 {
     let mut start = 0;
     'frames: loop {

@@ -1,5 +1,5 @@
 //! What stands at the front of bytes, field by field.
-ghost use Rattle.std.specs.Prelude.{◌≡◌, ◌==◌, nat_le, true, [], length, IfOk};
+ghost use Rattle.std.specs.Prelude.{◌≡◌, ◌==◌, ◌≤◌, nat_le, true, false, [], length, IfOk, MatchOption};
 ghost use Rattle.std.specs.Cmp.Lexicographic.{slice_cmp};
 ghost use Rattle.std.specs.Ordering.{nat_cmp, is_lt};
 ghost use Rattle.std.specs.Str.{is_utf8};
@@ -13,20 +13,24 @@ ghost use Rattle.up_frame.specs.Fronts.{
   type_at,
   is_size_of,
   is_value_of,
+  value_of,
+  as_value,
   value_at,
   attribute_at,
   attributes_at,
   content_at,
   packet_at,
 };
-ghost use Rattle.up_frame.specs.Reading.{BeginsWithFrame, Ends, EndsNamed, Gives};
+ghost use Rattle.up_frame.specs.Reading.{BeginsWithFrame, Ends, Gives, Parted};
 ghost use Rattle.up_frame.specs.Types.{type_with};
+ghost use Rattle.up_model.specs.Value.{lent};
 ghost use Rattle.up_model.specs.declared.limits.TheConstants.{MAX_ATTRS, MAX_PACKET};
 
+use crate::frame_parts::FrameParts;
 use crate::layout::{MARK, NotWhole, VERSION, ValueType};
 use std::cmp::Ordering;
-use up_base::{AttrName, read_u16, read_u32};
-use up_model::{MAX_ATTRS, MAX_PACKET, MAX_VALUE};
+use up_base::{AttrName, read_u16, read_u32, read_u64};
+use up_model::{MAX_ATTRS, MAX_PACKET, MAX_VALUE, ValueView};
 
 /// A field of so many bytes, whatever they are, and what is behind it.
 fn cut(bytes: &[u8], size: usize) -> Result<(&[u8], &[u8]), NotWhole>
@@ -73,8 +77,9 @@ fn name_size_at(bytes: &[u8]) -> Result<(usize, &[u8]), NotWhole>
 
 /// How many attributes there are.
 pub(crate) fn count_at(bytes: &[u8]) -> Result<(u16, &[u8]), NotWhole>
-    ensures { Gives (λ x. (x.0, x.1.now)) result
+    ensures front { Gives (λ x. (x.0, x.1.now)) result
         (number_at 2 (λ count. nat_le count MAX_ATTRS) bytes.now) }
+    ensures few { IfOk result (λ x. x.0 ≤ MAX_ATTRS) }
 {
     if bytes.len() < 2 {
         return Err(NotWhole::Unfinished);
@@ -88,8 +93,9 @@ pub(crate) fn count_at(bytes: &[u8]) -> Result<(u16, &[u8]), NotWhole>
 
 /// How many bytes the packet has.
 pub(crate) fn size_at(bytes: &[u8]) -> Result<(u32, &[u8]), NotWhole>
-    ensures { Gives (λ x. (x.0, x.1.now)) result
+    ensures front { Gives (λ x. (x.0, x.1.now)) result
         (number_at 4 (λ size. nat_le size MAX_PACKET) bytes.now) }
+    ensures few { IfOk result (λ x. x.0 ≤ MAX_PACKET) }
 {
     if bytes.len() < 4 {
         return Err(NotWhole::Unfinished);
@@ -184,25 +190,34 @@ fn is_behind(before: &[u8], name: &[u8]) -> bool
     is_named(name) && is_before(before, name)
 }
 
-/// Whether the bytes are UTF-8.
-fn is_text(bytes: &[u8]) -> bool
-    ensures { result ≡ is_utf8 bytes.now }
+/// The text that the bytes are, where they are UTF-8.
+fn text_of(bytes: &[u8]) -> Option<&str>
+    ensures { MatchOption result (is_utf8 bytes.now ≡ false)
+        (λ text. (is_utf8 bytes.now ≡ true) × (text.now ≡ bytes.now)) }
 {
     match std::str::from_utf8(bytes) {
-        Ok(_) => true,
-        Err(_) => false,
+        Ok(text) => Some(text),
+        Err(_) => None,
     }
 }
 
-/// Whether a value of this type may be these bytes.
-fn may_be(type_: ValueType, bytes: &[u8]) -> bool
+/// The value of this type that the bytes are, where they may be one.
+fn view_of(bytes: &[u8], type_: ValueType) -> Option<ValueView<'_>>
     requires { is_size_of type_ (length bytes.now) ≡ true }
-    ensures { result ≡ is_value_of type_ bytes.now }
+    ensures { MatchOption result (is_value_of type_ bytes.now ≡ false)
+        (λ value. (is_value_of type_ bytes.now ≡ true)
+        × (lent value ≡ value_of type_ bytes.now)) }
 {
     match type_ {
-        ValueType::Flag => bytes[0] <= 1,
-        ValueType::Words => is_text(bytes),
-        ValueType::Void | ValueType::Unsigned | ValueType::Opaque => true,
+        ValueType::Void => Some(ValueView::Void),
+        ValueType::Flag => match bytes[0] {
+            0 => Some(ValueView::Flag(false)),
+            1 => Some(ValueView::Flag(true)),
+            _ => None,
+        },
+        ValueType::Unsigned => Some(ValueView::Unsigned(read_u64(bytes, 0))),
+        ValueType::Words => Some(ValueView::Words(text_of(bytes)?)),
+        ValueType::Opaque => Some(ValueView::Opaque(bytes)),
     }
 }
 
@@ -227,45 +242,49 @@ fn name_at<'a>(
 }
 
 /// A value of so many bytes, and what is behind it.
-fn content_of(bytes: &[u8], size: usize, type_: ValueType) -> Result<(&[u8], &[u8]), NotWhole>
+fn content_of(
+    bytes: &[u8],
+    size: usize,
+    type_: ValueType,
+) -> Result<(ValueView<'_>, &[u8]), NotWhole>
     requires { is_size_of type_ size ≡ true }
-    ensures { Gives (λ x. (x.0.now, x.1.now)) result (field size (is_value_of type_) bytes.now) }
+    ensures { Gives (λ x. (lent x.0, x.1.now)) result
+        (as_value type_ (field size (is_value_of type_) bytes.now)) }
 {
     if bytes.len() < size {
         return Err(NotWhole::Unfinished);
     }
-    let (value, rest) = bytes.split_at(size);
-    if !may_be(type_, value) {
-        return Err(NotWhole::Broken);
+    let (content, rest) = bytes.split_at(size);
+    match view_of(content, type_) {
+        Some(value) => Ok((value, rest)),
+        None => Err(NotWhole::Broken),
     }
-    Ok((value, rest))
 }
 
-/// What is behind a value of this type and its length.
+/// A value of this type behind its length, and what is behind it.
 #[tactic(auto, unfolding(crate::specs::Fronts::value_at))]
-fn behind_value(bytes: &[u8], type_: ValueType) -> Result<&[u8], NotWhole>
-    ensures { Ends (λ rest. rest.now) result (value_at type_ bytes.now) }
+fn value(bytes: &[u8], type_: ValueType) -> Result<(ValueView<'_>, &[u8]), NotWhole>
+    ensures { Gives (λ x. (lent x.0, x.1.now)) result (value_at type_ bytes.now) }
 {
     let (size, rest) = value_size_at(bytes, type_)?;
-    let (_, rest) = content_of(rest, size as usize, type_)?;
-    Ok(rest)
+    content_of(rest, size as usize, type_)
 }
 
-/// The name of an attribute behind another, and what is behind the attribute.
+/// The name of an attribute behind another, its value, and what is behind the attribute.
 #[tactic(auto, unfolding(crate::specs::Fronts::attribute_at))]
 pub(crate) fn attribute<'a>(
     bytes: &'a [u8],
     before: &[u8],
-) -> Result<(&'a [u8], &'a [u8]), NotWhole>
-    ensures front { EndsNamed (λ x. x.0.now) (λ x. x.1.now) result
+) -> Result<(&'a [u8], ValueView<'a>, &'a [u8]), NotWhole>
+    ensures front { Gives (λ x. ((x.0.now, lent x.1), x.2.now)) result
         (attribute_at before.now bytes.now) }
     ensures name { IfOk result (λ x. is_name x.0.now ≡ true) }
 {
     let (size, rest) = name_size_at(bytes)?;
     let (name, rest) = name_at(rest, size, before)?;
     let (type_, rest) = front_type(rest)?;
-    let rest = behind_value(rest, type_)?;
-    Ok((name, rest))
+    let (value, rest) = value(rest, type_)?;
+    Ok((name, value, rest))
 }
 
 /// What is behind so many attributes.
@@ -275,33 +294,48 @@ fn behind_attributes(bytes: &[u8], count: u16) -> Result<&[u8], NotWhole>
     let mut before: &[u8] = &[];
     let mut rest = bytes;
     for _ in 0..count {
-        let (name, after) = attribute(rest, before)?;
+        let (name, _, after) = attribute(rest, before)?;
         before = name;
         rest = after;
     }
     Ok(rest)
 }
 
-/// What is behind so many attributes and so many bytes.
+/// So many attributes and so many bytes, and what is behind them.
 #[tactic(auto, unfolding(crate::specs::Fronts::content_at))]
-fn behind_content(bytes: &[u8], count: u16, size: u32) -> Result<&[u8], NotWhole>
-    ensures { Ends (λ rest. rest.now) result (content_at count size bytes.now) }
+fn content(bytes: &[u8], count: u16, size: u32) -> Result<(FrameParts<'_>, &[u8]), NotWhole>
+    requires count { count ≤ MAX_ATTRS }
+    requires size { size ≤ MAX_PACKET }
+    ensures { Parted result (content_at count size bytes.now) }
 {
-    let rest = behind_attributes(bytes, count)?;
-    let (_, rest) = cut(rest, size as usize)?;
-    Ok(rest)
+    let behind = behind_attributes(bytes, count)?;
+    let (content, rest) = cut(behind, size as usize)?;
+    let parts = FrameParts {
+        count,
+        attrs: bytes,
+        content,
+    };
+    Ok((parts, rest))
 }
 
-/// What is behind a frame.
+/// The parts of the frame at the front, and what is behind it.
 #[tactic(auto, unfolding(crate::specs::Fronts::packet_at))]
-fn behind_packet(bytes: &[u8]) -> Result<&[u8], NotWhole>
-    ensures { Ends (λ rest. rest.now) result (packet_at bytes.now) }
+fn parts(bytes: &[u8]) -> Result<(FrameParts<'_>, &[u8]), NotWhole>
+    ensures { Parted result (packet_at bytes.now) }
 {
     let rest = behind_byte(bytes, MARK)?;
     let rest = behind_byte(rest, VERSION)?;
     let (count, rest) = count_at(rest)?;
     let (size, rest) = size_at(rest)?;
-    behind_content(rest, count, size)
+    content(rest, count, size)
+}
+
+/// The parts of the frame at the front, which is that of a legal packet, and what is behind it.
+pub(crate) fn frame_parts(bytes: &[u8]) -> Result<(FrameParts<'_>, &[u8]), NotWhole>
+    ensures whole { IfOk result (λ x. BeginsWithFrame bytes.now x.1.now) }
+    ensures front { Parted result (packet_at bytes.now) }
+{
+    parts(bytes)
 }
 
 /// What is behind the frame at the front of some bytes, or why no whole one stands there. Nothing is
@@ -312,5 +346,6 @@ pub fn behind_frame(bytes: &[u8]) -> Result<&[u8], NotWhole>
     // What the front is, and which refusal it is.
     ensures front { Ends (λ rest. rest.now) result (packet_at bytes.now) }
 {
-    behind_packet(bytes)
+    let (_, rest) = frame_parts(bytes)?;
+    Ok(rest)
 }

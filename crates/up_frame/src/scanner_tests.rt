@@ -2,6 +2,7 @@ ghost use Rattle.std.specs.Prelude.{◌<◌};
 ghost use Rattle.up_model.specs.Packet.{IsLegal};
 ghost use Rattle.up_shape.specs.VecPackets.{plain_of};
 
+use crate::reader_tests::wanted_answer;
 use crate::tests::{EACH_TYPE, NAMES, fresh, set_all, set_opaque};
 use crate::{BadFrame, FeedRefused, FrameScanner, write_frame};
 use std::alloc::Global;
@@ -17,9 +18,10 @@ fn feed(rt: &impl Abort, scanner: &mut FrameScanner, piece: &[u8]) -> Result<(),
     scanner.feed(piece)
 }
 
-/// Feeds bytes in pieces of this size, and gives the last answer.
+/// Feeds bytes in pieces of this size, compares each answer with what is found in the bytes so far, and gives the last one.
 fn feed_cut(
     rt: &impl Abort,
+    alloc: Global,
     scanner: &mut FrameScanner,
     bytes: &[u8],
     size: usize,
@@ -27,8 +29,11 @@ fn feed_cut(
     requires { 0 < size }
 {
     let mut answer = Ok(());
+    let mut fed = Bytes::new(alloc);
     for piece in bytes.chunks(size) {
         answer = feed(rt, scanner, piece);
+        assert_eq!(rt; fed.append(piece), Ok(()));
+        assert_eq!(rt; answer, wanted_answer(fed.as_slice()));
     }
     answer
 }
@@ -74,7 +79,10 @@ fn assert_cut(rt: &impl Abort, alloc: Global, bytes: &[u8], size: usize, wanted:
     requires { 0 < size }
 {
     let mut scanner = FrameScanner::new(alloc);
-    assert_eq!(rt; feed_cut(rt, &mut scanner, bytes, size), wanted.answer);
+    assert_eq!(rt;
+        feed_cut(rt, alloc, &mut scanner, bytes, size),
+        wanted.answer
+    );
     assert_eq!(rt; scanner.fed(), bytes.len() as u64);
     assert_eq!(rt; scanner.rest_begins(), wanted.begins);
     assert_eq!(rt; scanner.finish(), wanted.end);
@@ -170,7 +178,7 @@ fn frames_at_their_limits_are_scanned(rt: HostRuntime) -> Result<(), Fail> {
     set_all(&rt, &mut packet, &NAMES);
     assert_packet(&rt, alloc, &packet);
     let mut packet = fresh(&rt, alloc, b"");
-    set_opaque(&rt, &mut packet, "x", &vec![in alloc; 8; 4096]?);
+    set_opaque(&rt, &mut packet, b"x", &vec![in alloc; 8; 4096]?);
     assert_packet(&rt, alloc, &packet);
     Ok(())
 }

@@ -21,13 +21,13 @@ pub(crate) fn fresh(rt: &impl Abort, alloc: Global, bytes: &[u8]) -> VecPacket
 }
 
 /// Gives the packet one attribute more.
-fn set_attr(rt: &impl Abort, packet: &mut VecPacket, name: &str, value: ValueView<'_>)
+fn set_attr(rt: &impl Abort, packet: &mut VecPacket, name: &[u8], value: ValueView<'_>)
     requires value { IsLegalValue (lent value) }
     requires legal { IsLegal (plain_of packet.old) }
     ensures { IsLegal (plain_of packet.new) }
 {
     packets_stay_legal();
-    let name = AttrName::read(name.as_bytes()).expect(rt, "no name");
+    let name = AttrName::read(name).expect(rt, "no name");
     assert!(rt; !name.bytes().is_empty());
     assert!(rt; packet.attr_count() < MAX_ATTRS);
     match packet.set_attr(&name, value) {
@@ -36,7 +36,7 @@ fn set_attr(rt: &impl Abort, packet: &mut VecPacket, name: &str, value: ValueVie
     }
 }
 
-fn set_words(rt: &impl Abort, packet: &mut VecPacket, name: &str, text: &str)
+fn set_words(rt: &impl Abort, packet: &mut VecPacket, name: &[u8], text: &str)
     requires { IsLegal (plain_of packet.old) }
     ensures { IsLegal (plain_of packet.new) }
 {
@@ -44,7 +44,7 @@ fn set_words(rt: &impl Abort, packet: &mut VecPacket, name: &str, text: &str)
     set_attr(rt, packet, name, ValueView::Words(text));
 }
 
-pub(crate) fn set_opaque(rt: &impl Abort, packet: &mut VecPacket, name: &str, bytes: &[u8])
+pub(crate) fn set_opaque(rt: &impl Abort, packet: &mut VecPacket, name: &[u8], bytes: &[u8])
     requires { IsLegal (plain_of packet.old) }
     ensures { IsLegal (plain_of packet.new) }
 {
@@ -91,7 +91,7 @@ fn a_packet_without_bytes_has_a_frame_of_eight(rt: HostRuntime) -> Result<(), Fa
 #[test]
 fn an_attribute_stands_before_the_bytes(rt: HostRuntime) -> Result<(), Fail> {
     let mut packet = fresh(&rt, rt.alloc(), b"hi");
-    set_attr(&rt, &mut packet, "x", ValueView::Unsigned(7));
+    set_attr(&rt, &mut packet, b"x", ValueView::Unsigned(7));
     let wanted = [
         0x46, 1, 0, 1, 0, 0, 0, 2, 1, 0x78, 3, 0, 0, 0, 8, 0, 0, 0, 0, 0, 0, 0, 7, 0x68, 0x69,
     ];
@@ -101,17 +101,17 @@ fn an_attribute_stands_before_the_bytes(rt: HostRuntime) -> Result<(), Fail> {
 #[test]
 fn values_of_each_type_stand_in_the_order_of_their_names(rt: HostRuntime) -> Result<(), Fail> {
     let mut packet = fresh(&rt, rt.alloc(), &[255]);
-    set_opaque(&rt, &mut packet, "e", &[0, 255]);
-    set_words(&rt, &mut packet, "d", "\u{e9}");
+    set_opaque(&rt, &mut packet, b"e", &[0, 255]);
+    set_words(&rt, &mut packet, b"d", "\u{e9}");
     set_attr(
         &rt,
         &mut packet,
-        "c",
+        b"c",
         ValueView::Unsigned(0x0102_0304_0506_0708),
     );
-    set_attr(&rt, &mut packet, "bb", ValueView::Flag(false));
-    set_attr(&rt, &mut packet, "b", ValueView::Flag(true));
-    set_attr(&rt, &mut packet, "a", ValueView::Void);
+    set_attr(&rt, &mut packet, b"bb", ValueView::Flag(false));
+    set_attr(&rt, &mut packet, b"b", ValueView::Flag(true));
+    set_attr(&rt, &mut packet, b"a", ValueView::Void);
     let wanted = [
         0x46, 1, 0, 6, 0, 0, 0, 1, 1, 0x61, 1, 0, 0, 0, 0, 1, 0x62, 2, 0, 0, 0, 1, 1, 2, 0x62,
         0x62, 2, 0, 0, 0, 1, 0, 1, 0x63, 3, 0, 0, 0, 8, 1, 2, 3, 4, 5, 6, 7, 8, 1, 0x64, 4, 0, 0,
@@ -134,7 +134,7 @@ pub(crate) fn set_all(rt: &impl Abort, packet: &mut VecPacket, names: &[&str])
     ensures { IsLegal (plain_of packet.new) }
 {
     for name in names.iter().rev() {
-        set_attr(rt, packet, name, ValueView::Void);
+        set_attr(rt, packet, name.as_bytes(), ValueView::Void);
     }
 }
 
@@ -164,7 +164,7 @@ fn the_greatest_packet_and_value_are_written(rt: HostRuntime) -> Result<(), Fail
     let bytes = vec![in alloc; 7; 1_048_576]?;
     let value = vec![in alloc; 8; 4096]?;
     let mut packet = fresh(&rt, alloc, &bytes);
-    set_opaque(&rt, &mut packet, "x", &value);
+    set_opaque(&rt, &mut packet, b"x", &value);
     let head = [0x46, 1, 0, 1, 0, 0x10, 0, 0, 1, 0x78, 5, 0, 0, 0x10, 0];
     let mut wanted = Vec::from_slice(alloc, &head)?;
     wanted.extend_from_slice(&value)?;
@@ -247,7 +247,7 @@ fn frames_at_their_limits_are_passed_over(rt: HostRuntime) -> Result<(), Fail> {
     set_all(&rt, &mut packet, &NAMES);
     assert_passed(&rt, alloc, &packet);
     let mut packet = fresh(&rt, alloc, b"");
-    set_opaque(&rt, &mut packet, "x", &vec![in alloc; 8; 4096]?);
+    set_opaque(&rt, &mut packet, b"x", &vec![in alloc; 8; 4096]?);
     assert_passed(&rt, alloc, &packet);
     Ok(())
 }

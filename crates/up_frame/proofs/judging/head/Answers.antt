@@ -10,7 +10,7 @@ returns-clause-within c =
     let bytes = c.args.bytes.now in
     let below : AreBytes bytes = All-from_get_or (λ byte. byte < 256) bytes 0 (λ i within. omega (arith, c.type_inv.bytes i)) in
     let skips = head_skips bytes (_, c.in_ok-rest.rest.now) (_, c.in_ok-rest-2.rest.now) (_, c.in_ok-count.rest.now) (_, c.in_ok-size.field-0-1.now) below
-    c.in_ok-rest.ensures c.in_ok-rest-2.ensures c.in_ok-count.ensures c.in_ok-size.ensures in
+    c.in_ok-rest.ensures c.in_ok-rest-2.ensures c.in_ok-count.ensures.front c.in_ok-size.ensures.front in
     let counted : length bytes ≡ length skips.passed + length c.in_ok-size.field-0-1.now = ap length skips.parts ∙ length-append skips.passed c.in_ok-size.field-0-1.now in
     omega (arith, counted, skips.place)
 
@@ -19,7 +19,7 @@ returns-clause-front c =
     let bytes = c.args.bytes.now in
     let below : AreBytes bytes = All-from_get_or (λ byte. byte < 256) bytes 0 (λ i within. omega (arith, c.type_inv.bytes i)) in
     let skips = head_skips bytes (_, c.in_ok-rest.rest.now) (_, c.in_ok-rest-2.rest.now) (_, c.in_ok-count.rest.now) (_, c.in_ok-size.field-0-1.now) below
-    c.in_ok-rest.ensures c.in_ok-rest-2.ensures c.in_ok-count.ensures c.in_ok-size.ensures in
+    c.in_ok-rest.ensures c.in_ok-rest-2.ensures c.in_ok-count.ensures.front c.in_ok-size.ensures.front in
     record {
       front = _;
       passed = skips.passed;
@@ -27,5 +27,5 @@ returns-clause-front c =
       parts = skips.parts;
       place = skips.place;
       on = head_on bytes (_, c.in_ok-rest.rest.now) (_, c.in_ok-rest-2.rest.now) (_, c.in_ok-count.rest.now) (_, c.in_ok-size.field-0-1.now)
-          c.in_ok-rest.ensures c.in_ok-rest-2.ensures c.in_ok-count.ensures c.in_ok-size.ensures;
+          c.in_ok-rest.ensures c.in_ok-rest-2.ensures c.in_ok-count.ensures.front c.in_ok-size.ensures.front;
     }

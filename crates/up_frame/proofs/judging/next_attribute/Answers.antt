@@ -17,21 +17,21 @@ returns-in_err-name-clause-front c on =
 pub overflow_sub-result : goal.overflow_sub-result
 overflow_sub-result c =
     let less = fewer c.last_name.result.now c.args.bytes.now c.args.judged.at _ c.requires.within
-    (ap (attribute_at c.last_name.result.now) (sym (from_place c.args.judged.at c.args.bytes.now)) ∙ c.in_ok-name.ensures.front.1) in
+    (ap (attribute_at c.last_name.result.now) (sym (from_place c.args.judged.at c.args.bytes.now)) ∙ c.in_ok-name.ensures.front) in
     omega (arith, less)
 
 pub invariant_of-result : goal.invariant_of-result
 invariant_of-result c =
     let less = fewer c.last_name.result.now c.args.bytes.now c.args.judged.at _ c.requires.within
-    (ap (attribute_at c.last_name.result.now) (sym (from_place c.args.judged.at c.args.bytes.now)) ∙ c.in_ok-name.ensures.front.1) in
+    (ap (attribute_at c.last_name.result.now) (sym (from_place c.args.judged.at c.args.bytes.now)) ∙ c.in_ok-name.ensures.front) in
     record { behind_head = omega (arith, less, c.args.judged.behind_head) }
 
 pub returns-clause-front : goal.returns-clause-front
 returns-clause-front c =
     let bytes = c.args.bytes.now in
-    one_more c.args.judged _ bytes c.in_ok-name.name.now c.in_ok-name.ensures.front.0 c.in_ok-name.rest.now
+    one_more c.args.judged _ bytes c.in_ok-name.name.now _ c.in_ok-name.rest.now
     (All-from_get_or (λ byte. byte < 256) bytes 0 (λ i within. omega (arith, c.type_inv.bytes i)))
     c.requires.within c.requires.some
     (ap (λ before. attribute_at before (drop c.args.judged.at bytes)) (sym c.last_name.ensures)
-    ∙ ap (attribute_at c.last_name.result.now) (sym (from_place c.args.judged.at bytes)) ∙ c.in_ok-name.ensures.front.1)
+    ∙ ap (attribute_at c.last_name.result.now) (sym (from_place c.args.judged.at bytes)) ∙ c.in_ok-name.ensures.front)
     refl refl refl (ap Some c.of.ensures)

@@ -1,7 +1,9 @@
 use Rattle.std.proofs.Common.{◌≡◌, length, ap, sym, subst, Ok, Err, arith}
 use Rattle.std.proofs.lemmas.List.{length-drop}
+use Rattle.up_frame.proofs.FoundFrames.{are_bytes}
 use Rattle.up_frame.proofs.GoingOn.{from_place}
 use Rattle.up_frame.proofs.ScannedBytes.{passed_more, passed_all}
+use Rattle.up_frame.proofs.Streams.{whole_front}
 use Rattle.up_frame.specs.Fronts.{packet_at}
 use Rattle.up_frame.specs.Judging.{IsJudged, EndsAt}
 use Rattle.up_frame.proofs.judging.rest_start.Goals as goal
@@ -28,3 +30,9 @@ returns-in-Err-clause-rest c first =
     passed_all bytes c.frames.start c.in-Err.refused c.frames.judged c.frame_end.new.judged
     (subst (λ rest. packet_at rest ≡ Err c.in-Err.refused) place (c.in-Err.ensures.front judged))
     (subst (IsJudged c.frame_end.new.judged) place (c.in-Err.ensures.judged judged)) so_far
+
+pub returns-in-Err-clause-frames : goal.returns-in-Err-clause-frames
+returns-in-Err-clause-frames c first =
+    let bytes = c.args.bytes.now in
+    whole_front bytes c.frames.start (are_bytes bytes (λ i. omega (arith, c.type_inv.bytes i))) (omega (arith, c.frames.invariant.within))
+    (returns-in-Err-clause-rest c first).rest

@@ -7,7 +7,7 @@ loop-init c = none_passed c.args.count c.args.bytes.now
 
 pub loop-preserved : goal.loop-preserved
 loop-preserved c =
-    one_passed _ _ _ _ _ _ c.in_ok-name.ensures.front.0 _ c.loop-test.true c.in_ok-name.ensures.front.1 c.loop.invariant
+    one_passed _ _ _ _ _ _ _ _ c.loop-test.true c.in_ok-name.ensures.front c.loop.invariant
 
 pub returns-in_err-name : goal.returns-in_err-name
 returns-in_err-name c =

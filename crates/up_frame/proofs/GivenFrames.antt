@@ -1,0 +1,298 @@
+-- Frames that wait to be given, and the bytes that hold them.
+use Rattle.std.proofs.Common.{◌≡◌, ℕ, ◌+◌, ◌-◌, ◌≤◌, List, [], ◌∷◌, ◌++◌, length, take, drop, slice_range, All, Some, None, Ok, Err, refl, sym, ap, subst, ◌∙◌, append_assoc, append-nil, arith}
+use Rattle.std.proofs.Math.Seq.{take-add}
+use Rattle.std.proofs.lemmas.List.{length-append, length-drop, length-take-le, drop-drop, drop-take, drop_at, take-append-le, drop-append-le}
+use Rattle.std.proofs.lemmas.List.Elements.{All-head, All-tail, All-append}
+use Rattle.std.proofs.lemmas.List.Concat.{flat_map-append}
+use Rattle.up_base.specs.Lists.{IsPrefix}
+use Rattle.up_frame.proofs.Fields.{found_is}
+use Rattle.up_frame.proofs.GoingOn.{grows}
+use Rattle.up_frame.proofs.MoreBytes.{grown, is_broken, stays_broken}
+use Rattle.up_frame.proofs.Packets.{packet_again}
+use Rattle.up_frame.proofs.ScannedBytes.{nothing_unfinished, broken_rest, rest_of_more}
+use Rattle.up_frame.proofs.SetAttributes.{not_refused}
+use Rattle.up_frame.proofs.Shorter.{packet_shrinks}
+use Rattle.up_frame.proofs.Steady.{Stays, packet_steady}
+use Rattle.up_frame.proofs.Streams.{none_is}
+use Rattle.up_frame.specs.Fronts.{packet_at}
+use Rattle.up_frame.specs.Judging.{AreFramesBefore, IsJudged, IsRest}
+use Rattle.up_frame.specs.Readers.{frames_held, behind_frames, Waits, StandsFor, Awaits}
+use Rattle.up_frame.specs.Scanners.{Keeps}
+use Rattle.up_frame.specs.Spelling.{frame_of, frames_of}
+use Rattle.up_frame.specs.Streams.{Stream, whole_frames, rest_of_frames, rest_place, broken_at}
+use Rattle.up_frame.specs.declared.frame_reader.FrameReader.{FrameReader}
+use Rattle.up_frame.specs.declared.layout.NotWhole.{NotWhole}
+use Rattle.up_frame.specs.declared.layout.NotWhole.TheVariants.{Broken, Unfinished}
+use Rattle.up_model.specs.Packet.{Flow, IsLegal}
+use Rattle.up_model.specs.declared.plain_packet.PlainPacket.{PlainPacket}
+
+-- what is behind a place, counted from an earlier one
+pub behind_place : (held : List ℕ) (given start : ℕ) → given ≤ start → drop (start - given) (drop given held) ≡ drop start held
+behind_place held given start ordered =
+    let place : given + (start - given) ≡ start = omega arith in
+    drop-drop (start - given) given held ∙ ap (λ (n : ℕ). drop n held) place
+
+-- a slice that goes on
+pub slice_more : (held : List ℕ) (given start size : ℕ) → given ≤ start
+    → slice_range held given (start + size) ≡ slice_range held given start ++ take size (drop start held)
+slice_more held given start size ordered =
+    let longer : start + size - given ≡ (start - given) + size = omega arith in
+    ap (λ (n : ℕ). take n (drop given held)) longer
+    ∙ take-add (start - given) size (drop given held)
+    ∙ ap (λ (b : List ℕ). take (start - given) (drop given held) ++ take size b) (behind_place held given start ordered)
+
+-- a slice, where bytes are added behind it
+pub slice_added : (held piece : List ℕ) (given start : ℕ) → given ≤ start → start ≤ length held
+    → slice_range (held ++ piece) given start ≡ slice_range held given start
+slice_added held piece given start ordered within =
+    let enough : start - given ≤ length (drop given held) = omega (arith, length-drop given held) in
+    ap (take (start - given)) (drop-append-le given held piece (omega arith))
+    ∙ take-append-le (start - given) (drop given held) piece enough
+
+-- the last part of a slice
+pub slice_last : (held first last : List ℕ) (given start : ℕ) → given ≤ start → start ≤ length held
+    → slice_range held given start ≡ first ++ last → slice_range held (start - length last) start ≡ last
+slice_last held first last given start ordered within parts =
+    let size : length (slice_range held given start) ≡ start - given = length-take-le (start - given) (drop given held) (omega (arith, length-drop given held)) in
+    let both : start - given ≡ length first + length last = sym size ∙ ap length parts ∙ length-append first last in
+    let place : start - length last ≡ given + length first = omega (arith, both, ordered) in
+    let count : start - (given + length first) ≡ length last = omega (arith, both, ordered) in
+    ap (λ (p : ℕ). slice_range held p start) place
+    ∙ ap (λ (n : ℕ). take n (drop (given + length first) held)) count
+    ∙ ap (take (length last)) (sym (drop-drop (length first) given held))
+    ∙ sym (drop-take (length first) (length last) (drop given held))
+    ∙ ap (λ (n : ℕ). drop (length first) (take n (drop given held))) (sym both)
+    ∙ ap (drop (length first)) parts
+    ∙ drop_at first last (length first) refl
+
+whole_of_more : (bytes more : List ℕ) → whole_frames (bytes ++ more) ≡ whole_frames bytes ++ whole_frames (rest_of_frames bytes ++ more)
+whole_of_more bytes more = ap (λ (s : Stream). s.flow) (grown (length bytes) bytes more (omega arith))
+
+-- where no frame is broken
+pub keeps_open : (reader : FrameReader) (bytes : List ℕ) (given : Flow) → reader.broken ≡ None → StandsFor reader bytes given
+    → Keeps None reader.judged (behind_frames reader) bytes
+keeps_open reader bytes given whole stands =
+    subst (λ broken. Keeps broken reader.judged (behind_frames reader) bytes) whole stands.keeps
+
+pub not_broken : (reader : FrameReader) (bytes : List ℕ) (given : Flow) → reader.broken ≡ None → StandsFor reader bytes given → broken_at bytes ≡ None
+not_broken reader bytes given whole stands =
+    let keeps = keeps_open reader bytes given whole stands in
+    broken_rest bytes (behind_frames reader) Unfinished keeps.0 keeps.1.0
+
+-- what is kept behind the frames, where it is the same
+same_keeps : (old new : FrameReader) (bytes : List ℕ) → new.broken ≡ old.broken → new.judged ≡ old.judged → behind_frames new ≡ behind_frames old
+    → Keeps old.broken old.judged (behind_frames old) bytes → Keeps new.broken new.judged (behind_frames new) bytes
+same_keeps old new bytes broken judged behind keeps =
+    subst (λ b. Keeps b new.judged (behind_frames new) bytes) (sym broken)
+    (subst (λ j. Keeps old.broken j (behind_frames new) bytes) (sym judged)
+    (subst (λ h. Keeps old.broken old.judged h bytes) (sym behind) keeps))
+
+same_frames : (old new : FrameReader) → new.held.items ≡ old.held.items → new.given ≡ old.given → new.start ≡ old.start → frames_held new ≡ frames_held old
+same_frames old new held first start =
+    ap (λ (s : ℕ). slice_range new.held.items new.given s) start
+    ∙ ap (λ (p : ℕ). slice_range new.held.items p old.start) first
+    ∙ ap (λ (h : List ℕ). slice_range h old.given old.start) held
+
+-- behind a broken frame no more frames are whole
+broken_whole : (bytes more : List ℕ) (place : ℕ) → broken_at bytes ≡ Some place → whole_frames (bytes ++ more) ≡ whole_frames bytes
+broken_whole bytes more place e =
+    let rest = rest_of_frames bytes in
+    let broken = is_broken (rest_place bytes) place (packet_at rest) e in
+    let later : packet_at (rest ++ more) ≡ Err Broken = subst (λ front. Stays more front (packet_at (rest ++ more))) broken.0 (packet_steady rest more) in
+    whole_of_more bytes more
+    ∙ ap (λ (f : Flow). whole_frames bytes ++ f) (ap (λ (s : Stream). s.flow) (none_is (rest ++ more) Broken later))
+    ∙ append-nil (whole_frames bytes)
+
+-- a piece behind a broken frame is counted alone
+pub piece_counted : (old new : FrameReader) (piece bytes : List ℕ) (given : Flow) (offset : ℕ) → old.broken ≡ Some offset
+    → new.held.items ≡ old.held.items → new.given ≡ old.given → new.start ≡ old.start → new.fed ≡ old.fed + length piece → new.broken ≡ old.broken
+    → StandsFor old bytes given → StandsFor new (bytes ++ piece) given × (broken_at (bytes ++ piece) ≡ Some offset)
+piece_counted old new piece bytes given offset is held first start fed broken stands =
+    let before : broken_at bytes ≡ Some offset = subst (λ b. Keeps b old.judged (behind_frames old) bytes) is stands.keeps in
+    let later = stays_broken bytes piece offset before in (
+      record {
+        count = fed ∙ ap (λ (n : ℕ). n + length piece) stands.count ∙ sym (length-append bytes piece);
+        waiting = stands.waiting;
+        waits = record { legal = stands.waits.legal; frames = same_frames old new held first start ∙ stands.waits.frames };
+        whole = broken_whole bytes piece offset before ∙ stands.whole;
+        keeps = subst (λ b. Keeps b new.judged (behind_frames new) (bytes ++ piece)) (sym (broken ∙ is)) later;
+      },
+      later,
+    )
+
+-- the bytes that were given are let go
+pub compacted : (old new : FrameReader) (bytes : List ℕ) (given : Flow) → new.held.items ≡ drop old.given old.held.items → new.given ≡ 0
+    → new.start ≡ old.start - old.given → new.judged ≡ old.judged → new.fed ≡ old.fed → new.broken ≡ old.broken
+    → StandsFor old bytes given → StandsFor new bytes given
+compacted old new bytes given held first start judged fed broken stands =
+    let less : old.start - old.given - 0 ≡ old.start - old.given = omega arith in
+    let behind : behind_frames new ≡ behind_frames old =
+    ap (λ (s : ℕ). drop s new.held.items) start ∙ ap (drop (old.start - old.given)) held ∙ behind_place old.held.items old.given old.start old.ordered in
+    let frames : frames_held new ≡ frames_held old =
+    ap (λ (s : ℕ). slice_range new.held.items new.given s) start
+    ∙ ap (λ (p : ℕ). slice_range new.held.items p (old.start - old.given)) first
+    ∙ ap (λ (h : List ℕ). slice_range h 0 (old.start - old.given)) held
+    ∙ ap (λ (n : ℕ). take n (drop old.given old.held.items)) less in
+    record {
+      count = fed ∙ stands.count;
+      waiting = stands.waiting;
+      waits = record { legal = stands.waits.legal; frames = frames ∙ stands.waits.frames };
+      whole = stands.whole;
+      keeps = same_keeps old new bytes broken judged behind stands.keeps;
+    }
+
+-- a piece is added
+pub piece_added : (old new : FrameReader) (piece bytes : List ℕ) (given : Flow) → old.broken ≡ None → new.held.items ≡ old.held.items ++ piece
+    → new.given ≡ old.given → new.start ≡ old.start → new.judged ≡ old.judged → new.fed ≡ old.fed + length piece
+    → StandsFor old bytes given → Awaits new (bytes ++ piece) given
+piece_added old new piece bytes given whole held first start judged fed stands =
+    let within : old.start ≤ length old.held.items = omega (arith, old.judged_within) in
+    let keeps = keeps_open old bytes given whole stands in
+    let behind : behind_frames new ≡ behind_frames old ++ piece =
+    ap (λ (s : ℕ). drop s new.held.items) start ∙ ap (drop old.start) held ∙ drop-append-le old.start old.held.items piece within in
+    let frames : frames_held new ≡ frames_held old =
+    ap (λ (s : ℕ). slice_range new.held.items new.given s) start
+    ∙ ap (λ (p : ℕ). slice_range new.held.items p old.start) first
+    ∙ ap (λ (h : List ℕ). slice_range h old.given old.start) held
+    ∙ slice_added old.held.items piece old.given old.start old.ordered within in
+    record {
+      count = fed ∙ ap (λ (n : ℕ). n + length piece) stands.count ∙ sym (length-append bytes piece);
+      waiting = stands.waiting;
+      waits = record { legal = stands.waits.legal; frames = frames ∙ stands.waits.frames };
+      whole = whole_of_more bytes piece
+          ∙ ap (λ (r : List ℕ). whole_frames bytes ++ whole_frames (r ++ piece)) keeps.0
+          ∙ ap (λ (r : List ℕ). whole_frames bytes ++ whole_frames r) (sym behind)
+          ∙ ap (λ (w : Flow). w ++ whole_frames (behind_frames new)) stands.whole;
+      rest = rest_of_more bytes piece ∙ ap (λ (r : List ℕ). rest_of_frames (r ++ piece)) keeps.0 ∙ ap rest_of_frames (sym behind);
+      on = subst (λ j. IsJudged j (behind_frames new)) (sym judged)
+          (subst (IsJudged old.judged) (sym behind) (grows old.judged (behind_frames old) piece keeps.1.1));
+    }
+
+-- all that is held was judged
+pub record AreJudged (reader : FrameReader) (bytes : List ℕ) (given : Flow) (refused : NotWhole) : Type 0 where
+  pub count : reader.fed ≡ length bytes
+  pub waiting : Flow
+  pub waits : Waits reader waiting
+  pub whole : whole_frames bytes ≡ given ++ waiting
+  pub rest : rest_of_frames bytes ≡ behind_frames reader
+  pub front : packet_at (behind_frames reader) ≡ Err refused
+  pub on : IsJudged reader.judged (behind_frames reader)
+
+pub all_judged : (old new : FrameReader) (bytes : List ℕ) (given : Flow) (size : ℕ) (refused : NotWhole) → AreFramesBefore size (behind_frames old)
+    → new.held.items ≡ old.held.items → new.given ≡ old.given → new.start ≡ old.start + size → new.fed ≡ old.fed
+    → IsRest (behind_frames old) size refused new.judged
+    → Awaits old bytes given → AreJudged new bytes given refused
+all_judged old new bytes given size refused front held first start fed is awaits =
+    let text = behind_frames old in
+    let behind : behind_frames new ≡ drop size text =
+    ap (λ (s : ℕ). drop s new.held.items) start ∙ ap (drop (old.start + size)) held ∙ sym (drop-drop size old.start old.held.items) in
+    let frames : frames_held new ≡ frames_of (awaits.waiting ++ whole_frames text) =
+    ap (λ (s : ℕ). slice_range new.held.items new.given s) start
+    ∙ ap (λ (p : ℕ). slice_range new.held.items p (old.start + size)) first
+    ∙ ap (λ (h : List ℕ). slice_range h old.given (old.start + size)) held
+    ∙ slice_more old.held.items old.given old.start size old.ordered
+    ∙ ap (λ (b : List ℕ). b ++ take size text) awaits.waits.frames
+    ∙ ap (λ (b : List ℕ). frames_of awaits.waiting ++ b) front.1
+    ∙ sym (flat_map-append frame_of awaits.waiting (whole_frames text)) in
+    record {
+      count = fed ∙ awaits.count;
+      waiting = awaits.waiting ++ whole_frames text;
+      waits = record { legal = All-append IsLegal awaits.waiting (whole_frames text) awaits.waits.legal front.0; frames = frames };
+      whole = awaits.whole ∙ append_assoc given awaits.waiting (whole_frames text);
+      rest = awaits.rest ∙ is.rest ∙ sym behind;
+      front = ap packet_at behind ∙ is.front;
+      on = subst (IsJudged new.judged) (sym behind) is.on;
+    }
+
+-- nothing was broken
+pub judged_open : (reader : FrameReader) (bytes : List ℕ) (given : Flow) → reader.broken ≡ None → AreJudged reader bytes given Unfinished
+    → StandsFor reader bytes given × (broken_at bytes ≡ None)
+judged_open reader bytes given whole are = (
+  record {
+    count = are.count;
+    waiting = are.waiting;
+    waits = are.waits;
+    whole = are.whole;
+    keeps = subst (λ b. Keeps b reader.judged (behind_frames reader) bytes) (sym whole) (are.rest, (are.front, are.on));
+  },
+  broken_rest bytes (behind_frames reader) Unfinished are.rest are.front,
+)
+
+-- the rest is broken at its place
+pub judged_broken : (reader : FrameReader) (bytes : List ℕ) (given : Flow) (offset : ℕ) → reader.broken ≡ Some offset
+    → length bytes - length (behind_frames reader) ≡ offset → AreJudged reader bytes given Broken
+    → StandsFor reader bytes given × (broken_at bytes ≡ Some offset)
+judged_broken reader bytes given offset broken place are =
+    let told : broken_at bytes ≡ Some offset = broken_rest bytes (behind_frames reader) Broken are.rest are.front ∙ ap Some place in (
+      record {
+        count = are.count;
+        waiting = are.waiting;
+        waits = are.waits;
+        whole = are.whole;
+        keeps = subst (λ b. Keeps b reader.judged (behind_frames reader) bytes) (sym broken) told;
+      },
+      told,
+    )
+
+-- what the first frame that waits is read as
+waiting_read : (flow : Flow) (bytes : List ℕ) (packet : PlainPacket) (rest : List ℕ) → All IsLegal flow → bytes ≡ frames_of flow
+    → packet_at bytes ≡ Ok (packet, rest) → (more : Flow) × (flow ≡ packet ∷ more) × (rest ≡ frames_of more) × (All IsLegal more)
+waiting_read [] bytes packet rest legal frames read =
+    absurd (not_refused (packet_at bytes) (packet, rest) Unfinished read (ap packet_at frames ∙ nothing_unfinished))
+waiting_read (first ∷ flow) bytes packet rest legal frames read =
+    let again = packet_again first (frames_of flow) (All-head IsLegal first flow legal) in
+    let same = found_is (first, frames_of flow) (packet, rest) (sym again ∙ ap packet_at (sym frames) ∙ read) in (
+      flow,
+      ap (λ (p : PlainPacket × List ℕ). p.0 ∷ flow) same,
+      sym (ap (λ (p : PlainPacket × List ℕ). p.1) same),
+      All-tail IsLegal first flow legal,
+    )
+
+-- the first of the frames that wait is given
+pub one_given : (old new : FrameReader) (bytes rest : List ℕ) (given : Flow) (packet : PlainPacket) → packet_at (frames_held old) ≡ Ok (packet, rest)
+    → new.held.items ≡ old.held.items → new.given ≡ old.start - length rest → new.start ≡ old.start → new.judged ≡ old.judged → new.fed ≡ old.fed
+    → new.broken ≡ old.broken → StandsFor old bytes given
+    → StandsFor new bytes (given ++ packet ∷ []) × IsPrefix (given ++ packet ∷ []) (whole_frames bytes)
+one_given old new bytes rest given packet read held first start judged fed broken stands =
+    let within : old.start ≤ length old.held.items = omega (arith, old.judged_within) in
+    let others = waiting_read stands.waiting (frames_held old) packet rest stands.waits.legal stands.waits.frames read in
+    let parts : frames_held old ≡ frame_of packet ++ rest =
+    stands.waits.frames ∙ ap frames_of others.1 ∙ ap (λ (r : List ℕ). frame_of packet ++ r) (sym others.2) in
+    let frames : frames_held new ≡ frames_of others.0 =
+    ap (λ (s : ℕ). slice_range new.held.items new.given s) start
+    ∙ ap (λ (p : ℕ). slice_range new.held.items p old.start) first
+    ∙ ap (λ (h : List ℕ). slice_range h (old.start - length rest) old.start) held
+    ∙ slice_last old.held.items (frame_of packet) rest old.given old.start old.ordered within parts
+    ∙ others.2 in
+    let behind : behind_frames new ≡ behind_frames old = ap (λ (s : ℕ). drop s new.held.items) start ∙ ap (drop old.start) held in
+    let whole : whole_frames bytes ≡ (given ++ packet ∷ []) ++ others.0 =
+    stands.whole ∙ ap (λ (w : Flow). given ++ w) others.1 ∙ sym (append_assoc given (packet ∷ []) others.0) in (
+      record {
+        count = fed ∙ stands.count;
+        waiting = others.0;
+        waits = record { legal = others.3; frames = frames };
+        whole = whole;
+        keeps = same_keeps old new bytes broken judged behind stands.keeps;
+      },
+      (others.0, whole),
+    )
+
+-- what is behind the first of them is no more than they are
+pub left_within : (reader : FrameReader) (packet : PlainPacket) (rest : List ℕ) → packet_at (frames_held reader) ≡ Ok (packet, rest) → length rest ≤ reader.start
+left_within reader packet rest read =
+    let held = reader.held.items in
+    let fewer = packet_shrinks (frames_held reader) (packet, rest) read in
+    let size : length (frames_held reader) ≡ reader.start - reader.given =
+    length-take-le (reader.start - reader.given) (drop reader.given held) (omega (arith, length-drop reader.given held, reader.ordered, reader.judged_within)) in
+    omega (arith, fewer, size)
+
+-- where none waits, all were given
+pub all_given : (reader : FrameReader) (bytes : List ℕ) (given : Flow) (refused : NotWhole) → packet_at (frames_held reader) ≡ Err refused
+    → StandsFor reader bytes given → given ≡ whole_frames bytes
+all_given reader bytes given refused none stands = none_left stands.waiting stands.waits.legal stands.waits.frames stands.whole
+  where
+    none_left : (waiting : Flow) → All IsLegal waiting → frames_held reader ≡ frames_of waiting → whole_frames bytes ≡ given ++ waiting → given ≡ whole_frames bytes
+    none_left [] legal frames whole = sym (append-nil given) ∙ sym whole
+    none_left (packet ∷ more) legal frames whole =
+        absurd (not_refused (packet_at (frames_held reader)) (packet, frames_of more) refused
+        (ap packet_at frames ∙ packet_again packet (frames_of more) (All-head IsLegal packet more legal)) none)

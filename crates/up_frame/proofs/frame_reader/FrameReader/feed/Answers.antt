@@ -1,0 +1,16 @@
+use Rattle.std.proofs.Common.{◌++◌, Some, refl, ap, ◌∙◌, arith}
+use Rattle.up_frame.proofs.GivenFrames.{piece_counted}
+use Rattle.up_frame.proofs.frame_reader.FrameReader.feed.Goals as goal
+
+pub returns-in-Some-clause-fed : goal.returns-in-Some-clause-fed
+returns-in-Some-clause-fed c bytes given stands =
+    piece_counted c.args.self.now _ c.args.piece.now bytes given c.in-Some.offset c.in-Some.is refl refl refl refl refl stands
+
+pub returns-in-None-clause-fed : goal.returns-in-None-clause-fed
+returns-in-None-clause-fed c bytes given stands =
+    c.in-None.ensures.judged (bytes ++ c.args.piece.now) given (c.in-Ok.ensures.added bytes given (c.compact.ensures.stands bytes given stands))
+
+pub returns-in-Some-judge-clause-fed : goal.returns-in-Some-judge-clause-fed
+returns-in-Some-judge-clause-fed c bytes given stands =
+    let judged = c.in-Some-judge.ensures.judged (bytes ++ c.args.piece.now) given (c.in-Ok.ensures.added bytes given (c.compact.ensures.stands bytes given stands)) in
+    (judged.0, judged.1 ∙ ap Some (omega arith))

@@ -1,0 +1,15 @@
+use Rattle.std.proofs.Common.{[], refl, sym, ap, ◌∙◌}
+use Rattle.std.proofs.lemmas.List.Elements.{All-nil}
+use Rattle.up_frame.proofs.ScannedBytes.{nothing_unfinished}
+use Rattle.up_frame.specs.Fronts.{packet_at}
+use Rattle.up_model.specs.Packet.{IsLegal}
+use Rattle.up_frame.proofs.frame_reader.FrameReader.new.Goals as goal
+
+pub returns-clause-stands : goal.returns-clause-stands
+returns-clause-stands c = record {
+  count = refl;
+  waiting = [];
+  waits = record { legal = All-nil IsLegal; frames = refl };
+  whole = refl;
+  keeps = (sym c.new.ensures.items, (ap packet_at c.new.ensures.items ∙ nothing_unfinished, tt));
+}
