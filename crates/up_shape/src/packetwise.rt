@@ -61,7 +61,7 @@ impl<K: Made<(AttrName, Value)>> Packetwise<K, (AttrName, Value)> {
         ensures kind { K.kind (step_of result) ≡ K.first (attr, value) }
         ensures fed_nothing { StandsFor result [] }
     {
-        prove!(!attr.bytes().is_empty());
+        let _name = attr.bytes();
         Packetwise {
             step: K::made((attr, value)),
             fed: false,
