@@ -30,6 +30,7 @@ const PASSED: Tally = Tally {
     put: 1,
     ..NOTHING
 };
+
 const DROPPED: Tally = Tally {
     taken: 1,
     dropped: 1,
@@ -69,7 +70,13 @@ pub(crate) fn value_of(rt: &impl Abort, alloc: Global, view: ValueView<'_>) -> V
 }
 
 /// Gives the packet one attribute more.
-pub(crate) fn give(rt: &impl Abort, alloc: Global, packet: &mut VecPacket, name: &str, value: ValueView<'_>)
+pub(crate) fn give(
+    rt: &impl Abort,
+    alloc: Global,
+    packet: &mut VecPacket,
+    name: &str,
+    value: ValueView<'_>,
+)
     requires legal { IsLegal (plain_of packet.old) }
     ensures legal { IsLegal (plain_of packet.new) }
 {
@@ -90,7 +97,12 @@ pub(crate) fn bare(rt: &impl Abort, s: &mut VecStore) -> VecPacket
 }
 
 /// A packet of the bytes `abc` with these attributes.
-pub(crate) fn packet_of(rt: &impl Abort, alloc: Global, attrs: &[Attr], s: &mut VecStore) -> VecPacket
+pub(crate) fn packet_of(
+    rt: &impl Abort,
+    alloc: Global,
+    attrs: &[Attr],
+    s: &mut VecStore,
+) -> VecPacket
     ensures legal { IsLegal (plain_of result) }
 {
     let mut packet = bare(rt, s);

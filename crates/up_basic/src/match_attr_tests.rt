@@ -168,16 +168,27 @@ fn match_attr_makes_no_second_packet(rt: HostRuntime) {
     out.end();
 }
 
-/// Why a value of `Low` is refused where `High` is this, and one of `High` where `Low` is this.
-const fn above(high: i128) -> ControlRefused {
-    ControlRefused::Invalid { low: 0, high }
-}
-const fn below(low: i128) -> ControlRefused {
-    ControlRefused::Invalid {
-        low,
-        high: 18_446_744_073_709_551_615,
-    }
-}
+/// Why a value of either bound is refused at first.
+const INVALID: ControlRefused = ControlRefused::Invalid {
+    low: 0,
+    high: 18_446_744_073_709_551_615,
+};
+
+/// Why a value of `Low` is refused where `High` is 20, and where it is 0.
+const ABOVE_20: ControlRefused = ControlRefused::Invalid { low: 0, high: 20 };
+
+const ABOVE_0: ControlRefused = ControlRefused::Invalid { low: 0, high: 0 };
+
+/// Why a value of `High` is refused where `Low` is 20, and where it is the greatest.
+const BELOW_20: ControlRefused = ControlRefused::Invalid {
+    low: 20,
+    high: 18_446_744_073_709_551_615,
+};
+
+const BELOW_GREATEST: ControlRefused = ControlRefused::Invalid {
+    low: 18_446_744_073_709_551_615,
+    high: 18_446_744_073_709_551_615,
+};
 
 /// Commands in order, each with its answer.
 const COMMANDS: [(Command, Result<Reply, ControlRefused>); 30] = [
@@ -186,26 +197,26 @@ const COMMANDS: [(Command, Result<Reply, ControlRefused>); 30] = [
         Command::Get(Opt::High),
         Ok(Reply::Value(18_446_744_073_709_551_615)),
     ),
-    (Command::Set(Opt::High, -1), Err(below(0))),
+    (Command::Set(Opt::High, -1), Err(INVALID)),
     (
         Command::Set(Opt::High, 18_446_744_073_709_551_616),
-        Err(below(0)),
+        Err(INVALID),
     ),
-    (Command::Set(Opt::Low, -1), Err(above(18_446_744_073_709_551_615))),
+    (Command::Set(Opt::Low, -1), Err(INVALID)),
     (
         Command::Set(Opt::Low, 18_446_744_073_709_551_616),
-        Err(above(18_446_744_073_709_551_615)),
+        Err(INVALID),
     ),
     (
         Command::Get(Opt::High),
         Ok(Reply::Value(18_446_744_073_709_551_615)),
     ),
     (Command::Set(Opt::High, 20), Ok(Reply::Done)),
-    (Command::Set(Opt::Low, 21), Err(above(20))),
+    (Command::Set(Opt::Low, 21), Err(ABOVE_20)),
     (Command::Get(Opt::Low), Ok(Reply::Value(0))),
     (Command::Set(Opt::Low, 20), Ok(Reply::Done)),
     (Command::Get(Opt::Low), Ok(Reply::Value(20))),
-    (Command::Set(Opt::High, 19), Err(below(20))),
+    (Command::Set(Opt::High, 19), Err(BELOW_20)),
     (Command::Get(Opt::High), Ok(Reply::Value(20))),
     (Command::Set(Opt::High, 20), Ok(Reply::Done)),
     (Command::Set(Opt::Low, 10), Ok(Reply::Done)),
@@ -214,7 +225,7 @@ const COMMANDS: [(Command, Result<Reply, ControlRefused>); 30] = [
     (Command::Get(Opt::High), Ok(Reply::Value(10))),
     (Command::Set(Opt::Low, 0), Ok(Reply::Done)),
     (Command::Set(Opt::High, 0), Ok(Reply::Done)),
-    (Command::Set(Opt::Low, 1), Err(above(0))),
+    (Command::Set(Opt::Low, 1), Err(ABOVE_0)),
     (
         Command::Set(Opt::High, 18_446_744_073_709_551_615),
         Ok(Reply::Done),
@@ -227,10 +238,7 @@ const COMMANDS: [(Command, Result<Reply, ControlRefused>); 30] = [
         Command::Get(Opt::Low),
         Ok(Reply::Value(18_446_744_073_709_551_615)),
     ),
-    (
-        Command::Set(Opt::High, 0),
-        Err(below(18_446_744_073_709_551_615)),
-    ),
+    (Command::Set(Opt::High, 0), Err(BELOW_GREATEST)),
     (Command::Set(Opt::Mtu, 1), Err(ControlRefused::Unhandled)),
     (Command::Set(Opt::By, 1), Err(ControlRefused::Unhandled)),
     (Command::Get(Opt::Offset), Err(ControlRefused::Unhandled)),
@@ -256,6 +264,6 @@ fn a_low_above_its_high_refuses_a_trial(rt: HostRuntime) {
     };
     assert_eq!(rt;
         tried(rt.alloc(), MatchAttr::new(name_of(&rt, "key")), &trial),
-        Err(Untried::Refused(above(20)))
+        Err(Untried::Refused(ABOVE_20))
     );
 }

@@ -117,7 +117,10 @@ const GIVEN: [(&[Attr], ValueView<'static>, &[Attr]); 9] = [
     (
         &[("ke", ValueView::Opaque(&[]))],
         ValueView::Words(""),
-        &[("ke", ValueView::Opaque(&[])), ("key", ValueView::Words(""))],
+        &[
+            ("ke", ValueView::Opaque(&[])),
+            ("key", ValueView::Words("")),
+        ],
     ),
     (
         &[("key", ValueView::Unsigned(7))],
@@ -173,7 +176,13 @@ fn numbered(rt: &impl Abort, alloc: Global, count: usize, s: &mut VecStore) -> V
 {
     let mut packet = bare(rt, s);
     for (place, name) in NAMES.iter().enumerate().take(count) {
-        give(rt, alloc, &mut packet, name, ValueView::Unsigned(place as u64));
+        give(
+            rt,
+            alloc,
+            &mut packet,
+            name,
+            ValueView::Unsigned(place as u64),
+        );
     }
     packet
 }
