@@ -70,6 +70,18 @@ pub(crate) fn value_of(rt: &impl Abort, alloc: Global, view: ValueView<'_>) -> V
 }
 
 /// Gives the packet one attribute more.
+fn set(rt: &impl Abort, packet: &mut VecPacket, name: &AttrName, value: &Value)
+    requires value { IsLegalValue value.now }
+    requires legal { IsLegal (plain_of packet.old) }
+    ensures legal { IsLegal (plain_of packet.new) }
+{
+    packets_stay_legal();
+    assert!(rt; !name.bytes().is_empty());
+    assert!(rt; packet.attr_count() < MAX_ATTRS);
+    assert_eq!(rt; packet.set_attr(name, value.view()), Ok(()));
+}
+
+/// Gives the packet one attribute more, by words of a table.
 pub(crate) fn give(
     rt: &impl Abort,
     alloc: Global,
@@ -80,12 +92,7 @@ pub(crate) fn give(
     requires legal { IsLegal (plain_of packet.old) }
     ensures legal { IsLegal (plain_of packet.new) }
 {
-    let name = name_of(rt, name);
-    let value = value_of(rt, alloc, value);
-    packets_stay_legal();
-    assert!(rt; !name.bytes().is_empty());
-    assert!(rt; packet.attr_count() < MAX_ATTRS);
-    assert_eq!(rt; packet.set_attr(&name, value.view()), Ok(()));
+    set(rt, packet, &name_of(rt, name), &value_of(rt, alloc, value));
 }
 
 /// A packet of the bytes `abc`, without attributes.

@@ -1,6 +1,6 @@
-ghost use Rattle.std.specs.Prelude.{◌≡◌, ◌+ℤ◌, pos, refl, OnOk};
+ghost use Rattle.std.specs.Prelude.{◌≡◌, pos, refl, OnOk};
 ghost use Rattle.up_model.specs.Dates.{date_name};
-ghost use Rattle.up_model.specs.Delay.{IsShift, dated, moved, delay_step};
+ghost use Rattle.up_model.specs.Delay.{IsShift, moved, delay_step};
 ghost use Rattle.up_model.specs.Kinds.{setting_of};
 ghost use Rattle.up_model.specs.declared.kind.Kind.TheVariants as kinds;
 ghost use Rattle.up_model.specs.declared.opt.Opt.TheVariants.{By};
@@ -22,13 +22,6 @@ pub type Delay = Packetwise<DelayStep>;
 pub struct DelayStep {
     by: i64,
     ghost bounded: { IsShift by },
-}
-
-/// The date moved, where that is one.
-fn moved_date(date: u64, by: i64) -> Option<u64>
-    ensures { result ≡ dated (pos date +ℤ by) }
-{
-    date.checked_add_signed(by)
 }
 
 impl DelayStep {
@@ -59,7 +52,7 @@ impl DelayStep {
         let Some(number) = number_of(p, &name) else {
             return Ok(());
         };
-        match moved_date(number, self.by) {
+        match number.checked_add_signed(self.by) {
             Some(later) => p.set_attr(&name, ValueView::Unsigned(later)),
             None => {
                 p.del_attr(&name);
