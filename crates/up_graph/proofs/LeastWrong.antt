@@ -37,7 +37,7 @@ are_refused fields tests key = list_any (is_refused key fields) tests
 
 -- a row tells the least wrong one of its own fields
 abbrev TellsOwn : KindRow → Type 0
-TellsOwn row = (fields : Members) → Judges (row.kind fields) (are_refused fields row.own)
+TellsOwn row = (fields : Members) → Judges (row.kind fields) (are_refused fields (row.own fields))
 
 one_own : (a : Bool) → (a || false) ≡ a
 one_own a = or-false a
@@ -49,7 +49,7 @@ source_tells : TellsOwn source_row
 source_tells fields =
     let numbers = both (given block fields) (given limit fields) in
     map_judges _ _ (both (given path fields) numbers)
-    (same_judges _ (are_refused fields source_row.own) (both (given path fields) numbers)
+    (same_judges _ (are_refused fields (source_row.own fields)) (both (given path fields) numbers)
     (λ key. three_own (is_refused key fields (test_of path)) (is_refused key fields (test_of block)) (is_refused key fields (test_of limit)))
     (both_judges _ _ (given path fields) numbers (given_judges path fields)
     (both_judges _ _ (given block fields) (given limit fields) (given_judges block fields) (given_judges limit fields))))
@@ -57,17 +57,17 @@ source_tells fields =
 sink_tells : TellsOwn sink_row
 sink_tells fields =
     map_judges _ _ (given path fields)
-    (same_judges _ (are_refused fields sink_row.own) (given path fields) (λ key. one_own (is_refused key fields (test_of path))) (given_judges path fields))
+    (same_judges _ (are_refused fields (sink_row.own fields)) (given path fields) (λ key. one_own (is_refused key fields (test_of path))) (given_judges path fields))
 
 skip_tells : TellsOwn skip_row
 skip_tells fields =
     map_judges _ _ (given bytes fields)
-    (same_judges _ (are_refused fields skip_row.own) (given bytes fields) (λ key. one_own (is_refused key fields (test_of bytes))) (given_judges bytes fields))
+    (same_judges _ (are_refused fields (skip_row.own fields)) (given bytes fields) (λ key. one_own (is_refused key fields (test_of bytes))) (given_judges bytes fields))
 
 delattr_tells : TellsOwn delattr_row
 delattr_tells fields =
     map_judges _ _ (given attr fields)
-    (same_judges _ (are_refused fields delattr_row.own) (given attr fields) (λ key. one_own (is_refused key fields (test_of attr))) (given_judges attr fields))
+    (same_judges _ (are_refused fields (delattr_row.own fields)) (given attr fields) (λ key. one_own (is_refused key fields (test_of attr))) (given_judges attr fields))
 
 plain_tells : (fields : Members) (key : List ℕ) → are_refused fields [] key ≡ true → ⊥
 plain_tells fields key is = absurd cc
@@ -121,19 +121,19 @@ in_order false false false false = refl
 
 wrong_parts : (row : KindRow) (fields : Members) → kind_in fields ≡ Some row → (key : List ℕ)
     → is_wrong row fields key
-    ≡ ((is_not_allowed row key fields || are_refused fields row.own key) || (is_refused key fields (test_of pipe_name) || are_refused fields (inputs_of row) key))
+    ≡ ((is_not_allowed row key fields || are_refused fields (row.own fields) key) || (is_refused key fields (test_of pipe_name) || are_refused fields (inputs_of row) key))
 wrong_parts row fields is key =
-    rw (list_any-append (is_refused key fields) (test_of pipe_name ∷ test_of a_kind ∷ inputs_of row) row.own, kind_found row fields is key)
-    (in_order (is_not_allowed row key fields) (are_refused fields row.own key) (is_refused key fields (test_of pipe_name)) (are_refused fields (inputs_of row) key))
+    rw (list_any-append (is_refused key fields) (test_of pipe_name ∷ test_of a_kind ∷ inputs_of row) (row.own fields), kind_found row fields is key)
+    (in_order (is_not_allowed row key fields) (are_refused fields (row.own fields) key) (is_refused key fields (test_of pipe_name)) (are_refused fields (inputs_of row) key))
 
 pipe_tells : (row : KindRow) → TellsOwn row → (tables : List Data) (fields : Members) → kind_in fields ≡ Some row → Judges (pipe_with row tables fields) (is_wrong row fields)
 pipe_tells row tells tables fields is =
     let ends = both (given pipe_name fields) (taken_by row.is_source tables fields) in
-    let own = both (known_alone (names_of row) fields) (row.kind fields) in
+    let own = both (known_alone (names_of row fields) fields) (row.kind fields) in
     map_judges _ _ (both (own_of row fields) ends)
     (same_judges _ (is_wrong row fields) (both (own_of row fields) ends) (wrong_parts row fields is)
     (both_judges _ _ (own_of row fields) ends
-    (map_judges _ _ own (both_judges _ _ (known_alone (names_of row) fields) (row.kind fields) (known_judges (names_of row) (keys fields)) (tells fields)))
+    (map_judges _ _ own (both_judges _ _ (known_alone (names_of row fields) fields) (row.kind fields) (known_judges (names_of row fields) (keys fields)) (tells fields)))
     (both_judges _ _ (given pipe_name fields) (taken_by row.is_source tables fields) (given_judges pipe_name fields) (taken_tells row tables fields))))
 
 -- what is told of a table whose kind is this one

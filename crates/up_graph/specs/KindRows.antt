@@ -19,10 +19,10 @@ pub record FieldTest : Type 0 where
 abbrev pub test_of : {A : Type 0} → Rule A → FieldTest
 test_of rule = record { name = rule.name; is_right = λ found. is_some (rule.value found) }
 
--- a kind: whether it takes from no other pipe, its own fields, and what they give
+-- a kind: whether it takes from no other pipe, the tests of its own fields in a table, and what they give
 pub record KindRow : Type 0 where
   pub is_source : Bool
-  pub own : List FieldTest
+  pub own : Members → List FieldTest
   pub kind : Members → Field Kind
 
 abbrev pub path : Rule (List ℕ)
@@ -37,7 +37,7 @@ limit = a_number (codes "limit") 0 MAX_LIMIT (Some MAX_LIMIT)
 abbrev pub source_row : KindRow
 source_row = record {
   is_source = true;
-  own = test_of path ∷ test_of block ∷ test_of limit ∷ [];
+  own = λ table. test_of path ∷ test_of block ∷ test_of limit ∷ [];
   kind = λ table.
       field_map (λ found. Source found.0 (source_forms.Raw found.1.0) found.1.1)
       (both (given path table) (both (given block table) (given limit table)));
@@ -46,7 +46,7 @@ source_row = record {
 abbrev pub sink_row : KindRow
 sink_row = record {
   is_source = false;
-  own = test_of path ∷ [];
+  own = λ table. test_of path ∷ [];
   kind = λ table. field_map (λ found. Sink found sink_forms.Raw) (given path table);
 }
 
@@ -56,7 +56,7 @@ bytes = a_number (codes "bytes") 0 MAX_PACKET None
 abbrev pub skip_row : KindRow
 skip_row = record {
   is_source = false;
-  own = test_of bytes ∷ [];
+  own = λ table. test_of bytes ∷ [];
   kind = λ table. field_map Skip (given bytes table);
 }
 
@@ -66,13 +66,13 @@ attr = a_name (codes "attr")
 abbrev pub delattr_row : KindRow
 delattr_row = record {
   is_source = false;
-  own = test_of attr ∷ [];
+  own = λ table. test_of attr ∷ [];
   kind = λ table. field_map DelAttr (given attr table);
 }
 
 -- a kind without fields of its own
 abbrev pub plain_row : Kind → KindRow
-plain_row kind = record { is_source = false; own = []; kind = λ table. Ok kind }
+plain_row kind = record { is_source = false; own = λ table. []; kind = λ table. Ok kind }
 
 abbrev pub row_of : List ℕ → Option KindRow
 row_of word =
@@ -99,15 +99,15 @@ pipe_name = a_name (codes "name")
 abbrev pub inputs_of : KindRow → List FieldTest
 inputs_of row = if row.is_source then [] else test_of an_input ∷ []
 
--- the fields that a pipe of the kind can have
-abbrev pub fields_of : KindRow → List FieldTest
-fields_of row = (test_of pipe_name ∷ test_of a_kind ∷ inputs_of row) ++ row.own
+-- the fields that a pipe of the kind can have, and their tests in this table
+abbrev pub fields_of : KindRow → Members → List FieldTest
+fields_of row table = (test_of pipe_name ∷ test_of a_kind ∷ inputs_of row) ++ row.own table
 
-abbrev pub names_of : KindRow → List (List ℕ)
-names_of row = map (λ test. test.name) (fields_of row)
+abbrev pub names_of : KindRow → Members → List (List ℕ)
+names_of row table = map (λ test. test.name) (fields_of row table)
 
 -- the kind that a table gives which has no fields but these
 abbrev pub own_of : KindRow → Members → Field Kind
 own_of row table =
     field_map (λ found. found.1)
-    (both (known_alone (names_of row) table) (row.kind table))
+    (both (known_alone (names_of row table) table) (row.kind table))
