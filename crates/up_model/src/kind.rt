@@ -4,7 +4,7 @@ ghost use Rattle.std.specs.Option.{option_map};
 ghost use Rattle.up_model.specs.Ends.{IsPath, is_source, is_sink, path_of};
 ghost use Rattle.up_model.specs.Kinds.{IsWithinBounds, fan_out_of};
 
-use crate::{FanOut, MAX_BLOCK, MAX_LIMIT, MAX_PACKET, MAX_PATH, SinkForm, SourceForm};
+use crate::{FanOut, MAX_BLOCK, MAX_LIMIT, MAX_PACKET, MAX_PATH, SinkForm, SourceForm, Value};
 use up_base::{AttrName, Text};
 
 /// What a pipe does, with the fields of its kind.
@@ -31,9 +31,24 @@ pub enum Kind {
     Skip {
         bytes: u32,
     },
+    /// Puts out each packet with this attribute, and drops one that would then have more than 64.
+    SetAttr {
+        attr: AttrName,
+        value: Value,
+    },
     /// Puts out each packet without the attribute of this name.
     DelAttr {
         attr: AttrName,
+    },
+    /// Puts out the packets whose attribute of this name is a number from `low` to `high`, both included, and drops the others.
+    MatchAttr {
+        attr: AttrName,
+        low: u64,
+        high: u64,
+    },
+    /// Adds `by` to each date of a packet, and takes away a date that would be below 0 or above 2^64 - 1.
+    Delay {
+        by: i64,
     },
 }
 
@@ -62,7 +77,10 @@ impl Kind {
             | Kind::Null
             | Kind::Dup
             | Kind::Skip { .. }
-            | Kind::DelAttr { .. } => false,
+            | Kind::SetAttr { .. }
+            | Kind::DelAttr { .. }
+            | Kind::MatchAttr { .. }
+            | Kind::Delay { .. } => false,
         }
     }
 
@@ -76,7 +94,10 @@ impl Kind {
             | Kind::Null
             | Kind::Dup
             | Kind::Skip { .. }
-            | Kind::DelAttr { .. } => false,
+            | Kind::SetAttr { .. }
+            | Kind::DelAttr { .. }
+            | Kind::MatchAttr { .. }
+            | Kind::Delay { .. } => false,
         }
     }
 
@@ -86,9 +107,13 @@ impl Kind {
     {
         match self {
             Kind::Sink { .. } | Kind::Null => FanOut::None,
-            Kind::Source { .. } | Kind::Idem | Kind::Skip { .. } | Kind::DelAttr { .. } => {
-                FanOut::One
-            }
+            Kind::Source { .. }
+            | Kind::Idem
+            | Kind::Skip { .. }
+            | Kind::SetAttr { .. }
+            | Kind::DelAttr { .. }
+            | Kind::MatchAttr { .. }
+            | Kind::Delay { .. } => FanOut::One,
             Kind::Dup => FanOut::All,
         }
     }
@@ -99,7 +124,14 @@ impl Kind {
     {
         match self {
             Kind::Source { path, .. } | Kind::Sink { path, .. } => Some(path),
-            Kind::Idem | Kind::Null | Kind::Dup | Kind::Skip { .. } | Kind::DelAttr { .. } => None,
+            Kind::Idem
+            | Kind::Null
+            | Kind::Dup
+            | Kind::Skip { .. }
+            | Kind::SetAttr { .. }
+            | Kind::DelAttr { .. }
+            | Kind::MatchAttr { .. }
+            | Kind::Delay { .. } => None,
         }
     }
 
@@ -118,7 +150,9 @@ impl Kind {
                 form: SinkForm::Raw,
             } => is_path(path),
             Kind::Skip { bytes } => *bytes <= MAX_PACKET,
-            Kind::Idem | Kind::Null | Kind::Dup | Kind::DelAttr { .. } => true,
+            Kind::SetAttr { attr: _, value } => value.is_legal(),
+            Kind::MatchAttr { attr: _, low, high } => low <= high,
+            Kind::Idem | Kind::Null | Kind::Dup | Kind::DelAttr { .. } | Kind::Delay { .. } => true,
         }
     }
 }
