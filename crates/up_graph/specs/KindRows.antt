@@ -1,14 +1,15 @@
 -- The kinds of graph files: a row a kind.
-use Rattle.std.specs.Prelude.{ℕ, Bool, true, false, List, [], ◌∷◌, ◌++◌, codes, map, Option, Some, None, option_and_then, Ok, if◌then◌else◌}
+use Rattle.std.specs.Prelude.{◌-◌, ◌^◌, ℕ, ℤ, Bool, true, false, List, [], ◌∷◌, ◌++◌, codes, map, Option, Some, None, option_and_then, Ok, Err, if◌then◌else◌}
 use Rattle.std.specs.Option.{is_some}
 use Rattle.std.specs.Str.{bytes_eq}
 use Rattle.toml.specs.Data.{Data, Members, as_str}
+use Rattle.up_graph.specs.AttrValue.{attr_value}
 use Rattle.up_graph.specs.Field.{Field, field_map, both, Rule, given, known_alone}
-use Rattle.up_graph.specs.Values.{a_name, a_path, a_number, an_input}
+use Rattle.up_graph.specs.Values.{a_name, a_path, a_number, an_input, an_integer}
 use Rattle.up_model.specs.declared.form.SinkForm.TheVariants as sink_forms
 use Rattle.up_model.specs.declared.form.SourceForm.TheVariants as source_forms
 use Rattle.up_model.specs.declared.kind.Kind.{Kind}
-use Rattle.up_model.specs.declared.kind.Kind.TheVariants.{Source, Sink, Idem, Null, Dup, Skip, DelAttr}
+use Rattle.up_model.specs.declared.kind.Kind.TheVariants.{Source, Sink, Idem, Null, Dup, Skip, SetAttr, DelAttr, MatchAttr, Delay}
 use Rattle.up_model.specs.declared.limits.TheConstants.{DEFAULT_BLOCK, MAX_BLOCK, MAX_LIMIT, MAX_PACKET}
 
 -- a field by its name, and whether what stands there is right
@@ -63,11 +64,50 @@ skip_row = record {
 abbrev pub attr : Rule (List ℕ)
 attr = a_name (codes "attr")
 
+abbrev pub setattr_row : KindRow
+setattr_row = record {
+  is_source = false;
+  own = λ table. test_of attr ∷ test_of attr_value ∷ [];
+  kind = λ table.
+      field_map (λ found. SetAttr found.0 found.1)
+      (both (given attr table) (given attr_value table));
+}
+
 abbrev pub delattr_row : KindRow
 delattr_row = record {
   is_source = false;
   own = λ table. test_of attr ∷ [];
   kind = λ table. field_map DelAttr (given attr table);
+}
+
+abbrev pub high : Rule ℕ
+high = a_number (codes "high") 0 (2 ^ 64 - 1) (Some (2 ^ 64 - 1))
+
+-- the greatest `low`: the `high` of the table, where that is right
+abbrev pub greatest_low : Field ℕ → ℕ
+greatest_low (Ok high) = high
+greatest_low (Err key) = 2 ^ 64 - 1
+
+abbrev pub low : Members → Rule ℕ
+low table = a_number (codes "low") 0 (greatest_low (given high table)) (Some 0)
+
+abbrev pub match_attr_row : KindRow
+match_attr_row = record {
+  is_source = false;
+  own = λ table. test_of attr ∷ test_of (low table) ∷ test_of high ∷ [];
+  kind = λ table.
+      field_map (λ found. MatchAttr found.0 found.1.0 found.1.1)
+      (both (given attr table) (both (given (low table) table) (given high table)));
+}
+
+abbrev pub by : Rule ℤ
+by = an_integer (codes "by")
+
+abbrev pub delay_row : KindRow
+delay_row = record {
+  is_source = false;
+  own = λ table. test_of by ∷ [];
+  kind = λ table. field_map Delay (given by table);
 }
 
 -- a kind without fields of its own
@@ -82,7 +122,10 @@ row_of word =
     else if bytes_eq word (codes "null") then Some (plain_row Null)
     else if bytes_eq word (codes "dup") then Some (plain_row Dup)
     else if bytes_eq word (codes "skip") then Some skip_row
+    else if bytes_eq word (codes "setattr") then Some setattr_row
     else if bytes_eq word (codes "delattr") then Some delattr_row
+    else if bytes_eq word (codes "match_attr") then Some match_attr_row
+    else if bytes_eq word (codes "delay") then Some delay_row
     else None
 
 -- the word of a kind
