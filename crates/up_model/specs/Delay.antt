@@ -41,11 +41,14 @@ moved_from by name attrs (Some date) = with_date name attrs (dated (pos date +�
 abbrev pub moved : ℤ → List ℕ → Attrs → Attrs
 moved by name attrs = moved_from by name attrs (unsigned_at name attrs)
 
--- each packet with its three dates moved
+-- the attributes with the three dates moved
+abbrev pub delayed : ℤ → Attrs → Attrs
+delayed by attrs =
+    moved by (date_name Orig) (moved by (date_name Prog) (moved by (date_name Sys) attrs))
+
+-- each packet with its dates moved
 abbrev pub delay_step : ℤ → Step
-delay_step by packet = Passes (record packet {
-  attrs = moved by (date_name Orig) (moved by (date_name Prog) (moved by (date_name Sys) packet.attrs));
-}) 0
+delay_step by packet = Passes (record packet { attrs = delayed by packet.attrs }) 0
 
 abbrev pub delay_setting : ℤ → Opt → Option Setting
 delay_setting by By = Some (record {

@@ -3,6 +3,7 @@ ghost use Rattle.std.specs.List.{list_any};
 ghost use Rattle.std.specs.Option.{option_map};
 ghost use Rattle.up_model.specs.Ends.{IsPath, is_source, is_sink, path_of};
 ghost use Rattle.up_model.specs.Kinds.{IsWithinBounds, fan_out_of};
+ghost use Rattle.up_model.specs.SetAttr.{IsAttribute};
 
 use crate::{FanOut, MAX_BLOCK, MAX_LIMIT, MAX_PACKET, MAX_PATH, SinkForm, SourceForm, Value};
 use up_base::{AttrName, Text};
@@ -64,6 +65,14 @@ fn is_path(path: &Text) -> bool
 {
     let bytes = path.as_slice();
     !bytes.is_empty() && bytes.len() <= MAX_PATH && !has_zero(bytes)
+}
+
+/// Whether the value is legal. The name is one by its type.
+fn is_attribute(attr: &AttrName, value: &Value) -> bool
+    ensures { IsTrue result ↔ IsAttribute attr.now value.now }
+{
+    let _name = attr.bytes();
+    value.is_legal()
 }
 
 impl Kind {
@@ -150,9 +159,10 @@ impl Kind {
                 form: SinkForm::Raw,
             } => is_path(path),
             Kind::Skip { bytes } => *bytes <= MAX_PACKET,
-            Kind::SetAttr { attr: _, value } => value.is_legal(),
+            Kind::SetAttr { attr, value } => is_attribute(attr, value),
             Kind::MatchAttr { attr: _, low, high } => low <= high,
-            Kind::Idem | Kind::Null | Kind::Dup | Kind::DelAttr { .. } | Kind::Delay { .. } => true,
+            Kind::Delay { by } => i64::MIN <= *by && *by <= i64::MAX,
+            Kind::Idem | Kind::Null | Kind::Dup | Kind::DelAttr { .. } => true,
         }
     }
 }

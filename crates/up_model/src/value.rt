@@ -47,7 +47,8 @@ impl Value {
         ensures { IsTrue result ↔ IsLegalValue self.now }
     {
         match self {
-            Value::Void | Value::Flag(_) | Value::Unsigned(_) => true,
+            Value::Void | Value::Flag(_) => true,
+            Value::Unsigned(number) => *number <= u64::MAX,
             Value::Words(text) => text.as_slice().len() <= MAX_VALUE,
             Value::Opaque(bytes) => bytes.as_slice().len() <= MAX_VALUE,
         }
