@@ -17,7 +17,7 @@ use Rattle.up_graph.specs.Document.{document_of, parsed}
 use Rattle.up_graph.specs.Faults.{faultless, graph_from, has_many_inputs, names_differ, none_at, one_input_each, told}
 use Rattle.up_graph.specs.Field.{Field, Rule, both, field_map, given, known_alone, keys, or_wrong}
 use Rattle.up_graph.specs.Graph.{graph_in, graph_of}
-use Rattle.up_graph.specs.KindRows.{FieldTest, KindRow, a_kind, attr, block, by, bytes, high, inputs_of, limit, low, names_of, own_of, path, pipe_name, source_row, sink_row, skip_row, setattr_row, delattr_row, match_attr_row, delay_row, test_of}
+use Rattle.up_graph.specs.KindRows.{FieldTest, KindRow, a_kind, attr, block, by, bytes, high, inputs_of, limit, low, names_of, own_of, path, pipe_name, test_of}
 use Rattle.up_graph.specs.LeastWrong.{HasNoWrong, IsToldOf, TellsLeastWrong, TellsOf, is_not_allowed, is_refused, is_wrong, kind_in}
 use Rattle.up_graph.specs.Pipes.{pipe_by, pipe_in, pipe_with, pipes_from, taken_by}
 use Rattle.up_graph.specs.Top.{array_in, array_of, counted, is_one, is_table, numbered, tables_in, tables_of, version_is, version_of}

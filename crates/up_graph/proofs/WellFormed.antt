@@ -1,6 +1,6 @@
 -- A graph that is read is well formed.
 use Rattle.std.proofs.Common.{inl, inr, ◌≡◌, ℕ, suc, ◌≤◌, Bool, true, false, not, List, [], ◌∷◌, All, length, Option, Some, None, Result, Ok, Err, refl, arith}
-use Rattle.std.specs.Prelude.{codes, ◌&&◌, ◌==◌, ◌-◌, ◌^◌, ◌≤ℤ◌, int_le, nat_le, nat_lt, pos, negsuc, IfOk, IfSome}
+use Rattle.std.specs.Prelude.{codes, ◌&&◌, ◌==◌, ◌-◌, ◌^◌, int_le, nat_le, nat_lt, pos, negsuc, IfOk, IfSome}
 use Rattle.std.specs.Int.Signed.{le_z_yes}
 use Rattle.std.specs.List.{list_all}
 use Rattle.std.specs.Option.{is_some}
@@ -13,9 +13,9 @@ use Rattle.up_base.specs.Name.{is_name, is_within}
 use Rattle.up_graph.proofs.Found.{mapped, weaker, both_by, both_too, anything, given_too, made_too, then_too, numbered_too}
 use Rattle.up_graph.proofs.Rows.{each_kind}
 use Rattle.up_graph.specs.Answers.{Answers, Checked}
-use Rattle.up_graph.specs.AttrValue.{attr_value, is_value_text, value_in, value_or_void}
+use Rattle.up_graph.specs.AttrValue.{attr_value, is_value_text, value_or_void}
 use Rattle.up_graph.specs.Faults.{names_differ, one_input_each, faultless, told, graph_from}
-use Rattle.up_graph.specs.Field.{Field, field_map, both, given, or_wrong}
+use Rattle.up_graph.specs.Field.{field_map, both, given, or_wrong}
 use Rattle.up_graph.specs.Graph.{graph_in}
 use Rattle.up_graph.specs.KindRows.{KindRow, a_kind, attr, block, by, bytes, greatest_low, high, limit, low, path, pipe_name, own_of, source_row, sink_row, skip_row, setattr_row, delattr_row, match_attr_row, delay_row}
 use Rattle.up_graph.specs.Pipes.{pipe_from, pipe_with, pipe_by, pipe_in, pipes_from, taken_by, input_of}
@@ -34,7 +34,6 @@ use Rattle.up_model.specs.declared.graph_fault.GraphFault.{GraphFault}
 use Rattle.up_model.specs.declared.kind.Kind.{Kind}
 use Rattle.up_model.specs.declared.limits.TheConstants.{DEFAULT_BLOCK, MAX_BLOCK, MAX_LIMIT, MAX_PACKET, MAX_PIPES, MAX_VALUE}
 use Rattle.up_model.specs.declared.pipe.Pipe.{Pipe}
-use Rattle.up_model.specs.declared.value.Value.{Value}
 use Rattle.up_model.specs.declared.value.Value.TheVariants.{Unsigned, Words}
 
 text_right : (passes : List ℕ → Bool) (found : Option Data) → IfSome (text_that passes found) (λ text. passes text ≡ true)

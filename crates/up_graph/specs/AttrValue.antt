@@ -1,5 +1,5 @@
 -- What may stand at `value`, and the value that an attribute is set to by it.
-use Rattle.std.specs.Prelude.{◌≡◌, ◌-◌, ◌^◌, ℕ, nat_le, Bool, ◌&&◌, pos, List, length, codes, Option, Some, None, option_map, if◌then◌else◌}
+use Rattle.std.specs.Prelude.{◌-◌, ◌^◌, ℕ, nat_le, Bool, ◌&&◌, List, length, codes, Option, Some, None, option_map}
 use Rattle.std.specs.Str.{is_utf8}
 use Rattle.toml.specs.Data.{Data, string, integer, boolean}
 use Rattle.up_graph.specs.Field.{Rule}

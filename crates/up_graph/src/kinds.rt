@@ -126,7 +126,10 @@ fn match_attr_at<'a>(table: &'a Table) -> Result<Kind, &'a str>
 fn delay_at<'a>(table: &'a Table) -> Result<Kind, &'a str>
     ensures { seen (λ kind. kind) result ≡ own_of delay_row (table_view table.entry.now) }
 {
-    match both(known_alone(table, &TAKING, &["by"]), integer_at(table, "by")) {
+    match both(
+        known_alone(table, &TAKING, &["by"]),
+        integer_at(table, "by"),
+    ) {
         Ok((_, by)) => Ok(Kind::Delay { by }),
         Err(field) => Err(field),
     }

@@ -110,10 +110,7 @@ pub static SETATTR_PIPES: [(&str, &str); 41] = [
     ("name='b',kind='setattr',attr=1,input='a'", "2: attr"),
     ("name='b',kind='setattr',attr=['k'],input='a'", "2: attr"),
     ("name='b',kind='setattr',attr='k'", "2: input"),
-    (
-        "name='b',kind='setattr',attr='k',low=1,input='a'",
-        "2: low",
-    ),
+    ("name='b',kind='setattr',attr='k',low=1,input='a'", "2: low"),
     ("name='b',kind='setattr',attr='k',by=1,input='a'", "2: by"),
     (
         "name='b',kind='setattr',attr='k',value=1,values=1,input='a'",
@@ -321,10 +318,7 @@ pub static DELAY_PIPES: [(&str, &str); 22] = [
     ("name='b',kind='delay',by=1", "2: input"),
     ("name='b',kind='delay',input=1", "2: by"),
     ("name='b c',kind='delay',input='a'", "2: by"),
-    (
-        "name='b',kind='delay',attr='k',by=1,input='a'",
-        "2: attr",
-    ),
+    ("name='b',kind='delay',attr='k',by=1,input='a'", "2: attr"),
     ("name='b',kind='delay',attr='k',input='a'", "2: attr"),
     ("name='b',kind='delay',by=1,zz=1,input='a'", "2: zz"),
     ("name='b',kind='delay',bytes=1,input='a'", "2: by"),
