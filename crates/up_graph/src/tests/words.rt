@@ -1,4 +1,6 @@
 // What is read, in words that tables compare.
+ghost use Rattle.std.specs.Prelude.{◌<◌, length, string_bytes, IfOk};
+
 use crate::{GraphRefused, read_graph};
 use std::string::String;
 use std::test::*;
@@ -30,18 +32,22 @@ pub fn refusal_words(rt: &HostRuntime, refused: &GraphRefused) -> Result<String,
     })
 }
 
-fn value_words(rt: &HostRuntime, value: &Value) -> Result<String, Fail> {
+fn value_words(rt: &HostRuntime, value: &Value) -> Result<String, Fail>
+    ensures { IfOk result (λ words. 0 < length (string_bytes words)) }
+{
     let alloc = rt.alloc();
-    Ok(match value {
-        Value::Void => format!(in alloc; "void")?,
-        Value::Flag(flag) => format!(in alloc; "flag {flag}")?,
-        Value::Unsigned(number) => format!(in alloc; "number {number}")?,
-        Value::Words(text) => format!(in alloc; "text '{}'", text.as_str())?,
-        Value::Opaque(bytes) => format!(in alloc; "{} bytes", bytes.as_slice().len())?,
-    })
+    match value {
+        Value::Void => Ok(format!(in alloc; "void")?),
+        Value::Flag(flag) => Ok(format!(in alloc; "flag {flag}")?),
+        Value::Unsigned(number) => Ok(format!(in alloc; "number {number}")?),
+        Value::Words(text) => Ok(format!(in alloc; "text '{}'", text.as_str())?),
+        Value::Opaque(bytes) => Ok(format!(in alloc; "bytes {}", bytes.as_slice().len())?),
+    }
 }
 
-fn kind_words(rt: &HostRuntime, kind: &Kind) -> Result<String, Fail> {
+fn kind_words(rt: &HostRuntime, kind: &Kind) -> Result<String, Fail>
+    ensures { IfOk result (λ words. 0 < length (string_bytes words)) }
+{
     let alloc = rt.alloc();
     Ok(match kind {
         Kind::Source {
