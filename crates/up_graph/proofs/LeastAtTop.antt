@@ -1,10 +1,10 @@
 -- The key that is told of the top is its least wrong one.
 use Rattle.std.proofs.Common.{inl, inr, ◌≡◌, ℕ, Bool, true, false, List, [], ◌∷◌, Option, Some, None, Ok, Err, refl, ap, arith}
-use Rattle.std.specs.Prelude.{◌&&◌, ◌||◌, not, codes}
+use Rattle.std.specs.Prelude.{◌&&◌, not, codes}
 use Rattle.std.specs.List.{list_all}
 use Rattle.std.specs.Str.{bytes_eq}
 use Rattle.std.proofs.lemmas.Bool.{and_parts, cases_Bool}
-use Rattle.toml.specs.Data.{Data, array, Items, Members, get_member}
+use Rattle.toml.specs.Data.{Data, array, Members, get_member}
 use Rattle.up_graph.proofs.Judged.{Judges, both_judges, its_own, known_judges, map_judges, same_bytes, wrong_alone}
 use Rattle.up_graph.proofs.LeastWrong.{array_elsewhere, between_elsewhere, document_elsewhere, elsewhere, pipes_told, second_tells, tables_found, version_elsewhere}
 use Rattle.up_graph.specs.Answers.{Checked, ◌>>=◌}
@@ -18,8 +18,6 @@ use Rattle.up_graph.specs.Top.{array_in, array_of, counted, is_table, numbered, 
 use Rattle.up_graph.specs.Values.{values}
 use Rattle.up_graph.specs.declared.graph_refused.GraphRefused.{GraphRefused}
 use Rattle.up_graph.specs.declared.graph_refused.GraphRefused.TheVariants.{BadField}
-use Rattle.up_model.specs.declared.graph.Graph.{Graph}
-use Rattle.up_model.specs.declared.pipe.Pipe.{Pipe}
 
 -- the key is `pipe`, where no array of tables stands
 abbrev is_no_array : Bool → List ℕ → Bool

@@ -12,11 +12,12 @@ use Rattle.up_graph.proofs.Found.{mapped, weaker, both_too, anything, numbered_t
 use Rattle.up_graph.proofs.Rows.{each_kind}
 use Rattle.up_graph.proofs.Judged.{Judges, both_judges, given_judges, known_judges, map_judges, same_judges, same_bytes}
 use Rattle.up_graph.specs.Answers.{Checked, ◌>>=◌}
+use Rattle.up_graph.specs.AttrValue.{attr_value}
 use Rattle.up_graph.specs.Document.{document_of, parsed}
 use Rattle.up_graph.specs.Faults.{faultless, graph_from, has_many_inputs, names_differ, none_at, one_input_each, told}
-use Rattle.up_graph.specs.Field.{Field, both, field_map, given, known_alone, keys, or_wrong}
+use Rattle.up_graph.specs.Field.{Field, Rule, both, field_map, given, known_alone, keys, or_wrong}
 use Rattle.up_graph.specs.Graph.{graph_in, graph_of}
-use Rattle.up_graph.specs.KindRows.{FieldTest, KindRow, a_kind, attr, block, bytes, inputs_of, limit, names_of, own_of, path, pipe_name, source_row, sink_row, skip_row, delattr_row, test_of}
+use Rattle.up_graph.specs.KindRows.{FieldTest, KindRow, a_kind, attr, block, by, bytes, high, inputs_of, limit, low, names_of, own_of, path, pipe_name, test_of}
 use Rattle.up_graph.specs.LeastWrong.{HasNoWrong, IsToldOf, TellsLeastWrong, TellsOf, is_not_allowed, is_refused, is_wrong, kind_in}
 use Rattle.up_graph.specs.Pipes.{pipe_by, pipe_in, pipe_with, pipes_from, taken_by}
 use Rattle.up_graph.specs.Top.{array_in, array_of, counted, is_one, is_table, numbered, tables_in, tables_of, version_is, version_of}
@@ -37,50 +38,58 @@ are_refused fields tests key = list_any (is_refused key fields) tests
 
 -- a row tells the least wrong one of its own fields
 abbrev TellsOwn : KindRow → Type 0
-TellsOwn row = (fields : Members) → Judges (row.kind fields) (are_refused fields row.own)
+TellsOwn row = (fields : Members) → Judges (row.kind fields) (are_refused fields (row.own fields))
 
 one_own : (a : Bool) → (a || false) ≡ a
 one_own a = or-false a
 
+two_own : (a b : Bool) → (a || (b || false)) ≡ (a || b)
+two_own a b = ap (λ last. a || last) (or-false b)
+
 three_own : (a b c : Bool) → (a || (b || (c || false))) ≡ (a || (b || c))
 three_own a b c = rw (or-false c) refl
 
-source_tells : TellsOwn source_row
-source_tells fields =
-    let numbers = both (given block fields) (given limit fields) in
-    map_judges _ _ (both (given path fields) numbers)
-    (same_judges _ (are_refused fields source_row.own) (both (given path fields) numbers)
-    (λ key. three_own (is_refused key fields (test_of path)) (is_refused key fields (test_of block)) (is_refused key fields (test_of limit)))
-    (both_judges _ _ (given path fields) numbers (given_judges path fields)
-    (both_judges _ _ (given block fields) (given limit fields) (given_judges block fields) (given_judges limit fields))))
+-- a kind of one own field, of two, and of three, the last two of which are read together
+one_tell : {A B : Type 0} (f : A → B) (a : Rule A) (fields : Members) → Judges (field_map f (given a fields)) (are_refused fields (test_of a ∷ []))
+one_tell f a fields =
+    map_judges _ f (given a fields)
+    (same_judges _ _ (given a fields) (λ key. one_own (is_refused key fields (test_of a))) (given_judges a fields))
 
-sink_tells : TellsOwn sink_row
-sink_tells fields =
-    map_judges _ _ (given path fields)
-    (same_judges _ (are_refused fields sink_row.own) (given path fields) (λ key. one_own (is_refused key fields (test_of path))) (given_judges path fields))
+two_judge : {A B : Type 0} (a : Rule A) (b : Rule B) (fields : Members)
+    → Judges (both (given a fields) (given b fields)) (λ key. is_refused key fields (test_of a) || is_refused key fields (test_of b))
+two_judge a b fields = both_judges _ _ (given a fields) (given b fields) (given_judges a fields) (given_judges b fields)
 
-skip_tells : TellsOwn skip_row
-skip_tells fields =
-    map_judges _ _ (given bytes fields)
-    (same_judges _ (are_refused fields skip_row.own) (given bytes fields) (λ key. one_own (is_refused key fields (test_of bytes))) (given_judges bytes fields))
+two_tell : {A B C : Type 0} (f : A × B → C) (a : Rule A) (b : Rule B) (fields : Members)
+    → Judges (field_map f (both (given a fields) (given b fields))) (are_refused fields (test_of a ∷ test_of b ∷ []))
+two_tell f a b fields =
+    map_judges _ f (both (given a fields) (given b fields))
+    (same_judges _ _ (both (given a fields) (given b fields))
+    (λ key. two_own (is_refused key fields (test_of a)) (is_refused key fields (test_of b))) (two_judge a b fields))
 
-delattr_tells : TellsOwn delattr_row
-delattr_tells fields =
-    map_judges _ _ (given attr fields)
-    (same_judges _ (are_refused fields delattr_row.own) (given attr fields) (λ key. one_own (is_refused key fields (test_of attr))) (given_judges attr fields))
+three_tell : {A B C D : Type 0} (f : A × (B × C) → D) (a : Rule A) (b : Rule B) (c : Rule C) (fields : Members)
+    → Judges (field_map f (both (given a fields) (both (given b fields) (given c fields)))) (are_refused fields (test_of a ∷ test_of b ∷ test_of c ∷ []))
+three_tell f a b c fields =
+    let others = both (given b fields) (given c fields) in
+    map_judges _ f (both (given a fields) others)
+    (same_judges _ _ (both (given a fields) others)
+    (λ key. three_own (is_refused key fields (test_of a)) (is_refused key fields (test_of b)) (is_refused key fields (test_of c)))
+    (both_judges _ _ (given a fields) others (given_judges a fields) (two_judge b c fields)))
 
 plain_tells : (fields : Members) (key : List ℕ) → are_refused fields [] key ≡ true → ⊥
 plain_tells fields key is = absurd cc
 
 kind_tells : (found : Option Data) → IfSome (a_kind.value found) TellsOwn
 kind_tells = each_kind TellsOwn (record {
-  source = source_tells;
-  sink = sink_tells;
+  source = λ fields. three_tell _ path block limit fields;
+  sink = λ fields. one_tell _ path fields;
   idem = plain_tells;
   null = plain_tells;
   dup = plain_tells;
-  skip = skip_tells;
-  delattr = delattr_tells;
+  skip = λ fields. one_tell _ bytes fields;
+  setattr = λ fields. two_tell _ attr attr_value fields;
+  delattr = λ fields. one_tell _ attr fields;
+  match_attr = λ fields. three_tell _ attr (low fields) high fields;
+  delay = λ fields. one_tell _ by fields;
 })
 
 taken_tells : (row : KindRow) (tables : List Data) (fields : Members) → Judges (taken_by row.is_source tables fields) (are_refused fields (inputs_of row))
@@ -121,19 +130,19 @@ in_order false false false false = refl
 
 wrong_parts : (row : KindRow) (fields : Members) → kind_in fields ≡ Some row → (key : List ℕ)
     → is_wrong row fields key
-    ≡ ((is_not_allowed row key fields || are_refused fields row.own key) || (is_refused key fields (test_of pipe_name) || are_refused fields (inputs_of row) key))
+    ≡ ((is_not_allowed row key fields || are_refused fields (row.own fields) key) || (is_refused key fields (test_of pipe_name) || are_refused fields (inputs_of row) key))
 wrong_parts row fields is key =
-    rw (list_any-append (is_refused key fields) (test_of pipe_name ∷ test_of a_kind ∷ inputs_of row) row.own, kind_found row fields is key)
-    (in_order (is_not_allowed row key fields) (are_refused fields row.own key) (is_refused key fields (test_of pipe_name)) (are_refused fields (inputs_of row) key))
+    rw (list_any-append (is_refused key fields) (test_of pipe_name ∷ test_of a_kind ∷ inputs_of row) (row.own fields), kind_found row fields is key)
+    (in_order (is_not_allowed row key fields) (are_refused fields (row.own fields) key) (is_refused key fields (test_of pipe_name)) (are_refused fields (inputs_of row) key))
 
 pipe_tells : (row : KindRow) → TellsOwn row → (tables : List Data) (fields : Members) → kind_in fields ≡ Some row → Judges (pipe_with row tables fields) (is_wrong row fields)
 pipe_tells row tells tables fields is =
     let ends = both (given pipe_name fields) (taken_by row.is_source tables fields) in
-    let own = both (known_alone (names_of row) fields) (row.kind fields) in
+    let own = both (known_alone (names_of row fields) fields) (row.kind fields) in
     map_judges _ _ (both (own_of row fields) ends)
     (same_judges _ (is_wrong row fields) (both (own_of row fields) ends) (wrong_parts row fields is)
     (both_judges _ _ (own_of row fields) ends
-    (map_judges _ _ own (both_judges _ _ (known_alone (names_of row) fields) (row.kind fields) (known_judges (names_of row) (keys fields)) (tells fields)))
+    (map_judges _ _ own (both_judges _ _ (known_alone (names_of row fields) fields) (row.kind fields) (known_judges (names_of row fields) (keys fields)) (tells fields)))
     (both_judges _ _ (given pipe_name fields) (taken_by row.is_source tables fields) (given_judges pipe_name fields) (taken_tells row tables fields))))
 
 -- what is told of a table whose kind is this one

@@ -1,33 +1,40 @@
 -- A graph that is read is well formed.
 use Rattle.std.proofs.Common.{inl, inr, ◌≡◌, ℕ, suc, ◌≤◌, Bool, true, false, not, List, [], ◌∷◌, All, length, Option, Some, None, Result, Ok, Err, refl, arith}
-use Rattle.std.specs.Prelude.{codes, ◌&&◌, ◌==◌, nat_lt, pos, negsuc, IfOk, IfSome}
+use Rattle.std.specs.Prelude.{codes, ◌&&◌, ◌==◌, ◌-◌, ◌^◌, int_le, nat_le, nat_lt, pos, negsuc, IfOk, IfSome}
+use Rattle.std.specs.Int.Signed.{le_z_yes}
 use Rattle.std.specs.List.{list_all}
 use Rattle.std.specs.Option.{is_some}
 use Rattle.std.specs.Str.{is_utf8}
 use Rattle.std.proofs.lemmas.Bool.{and_parts, cases_Bool}
 use Rattle.std.proofs.lemmas.Bool.Decides.{nat_tests}
 use Rattle.std.proofs.lemmas.List.Elements.{All-nil, All-cons}
-use Rattle.toml.specs.Data.{Data, string, integer, array, table, Members, get_member}
+use Rattle.toml.specs.Data.{Data, string, integer, boolean, array, table, Members, get_member}
 use Rattle.up_base.specs.Name.{is_name, is_within}
-use Rattle.up_graph.proofs.Found.{mapped, weaker, both_too, anything, given_too, then_too, numbered_too}
+use Rattle.up_graph.proofs.Found.{mapped, weaker, both_by, both_too, anything, given_too, made_too, then_too, numbered_too}
 use Rattle.up_graph.proofs.Rows.{each_kind}
 use Rattle.up_graph.specs.Answers.{Answers, Checked}
+use Rattle.up_graph.specs.AttrValue.{attr_value, is_value_text, value_or_void}
 use Rattle.up_graph.specs.Faults.{names_differ, one_input_each, faultless, told, graph_from}
 use Rattle.up_graph.specs.Field.{field_map, both, given, or_wrong}
 use Rattle.up_graph.specs.Graph.{graph_in}
-use Rattle.up_graph.specs.KindRows.{KindRow, a_kind, attr, block, bytes, limit, path, pipe_name, own_of, source_row, sink_row, skip_row, delattr_row}
+use Rattle.up_graph.specs.KindRows.{KindRow, a_kind, attr, block, by, bytes, greatest_low, high, limit, low, path, pipe_name, own_of, source_row, sink_row, skip_row, setattr_row, delattr_row, match_attr_row, delay_row}
 use Rattle.up_graph.specs.Pipes.{pipe_from, pipe_with, pipe_by, pipe_in, pipes_from, taken_by, input_of}
 use Rattle.up_graph.specs.Top.{array_in, array_of, counted, is_table, numbered, tables_in, tables_of, version_of}
-use Rattle.up_graph.specs.Values.{a_number, number_in, number_or, text_that, values}
+use Rattle.up_graph.specs.Values.{a_name, a_number, integer_in, number_in, number_or, text_that, values}
 use Rattle.up_graph.specs.declared.graph_refused.GraphRefused.{GraphRefused}
+use Rattle.up_model.specs.Delay.{IsShift, least_shift, greatest_shift}
 use Rattle.up_model.specs.Ends.{IsPath, is_path, is_source}
 use Rattle.up_model.specs.Kinds.{IsWithinBounds}
+use Rattle.up_model.specs.MatchAttr.{AreBounds}
+use Rattle.up_model.specs.SetAttr.{IsAttribute}
+use Rattle.up_model.specs.Value.{IsLegalValue}
 use Rattle.up_model.specs.WellFormed.{IsPipe, IsWellFormed, graph_fault}
 use Rattle.up_model.specs.declared.graph.Graph.{Graph}
 use Rattle.up_model.specs.declared.graph_fault.GraphFault.{GraphFault}
 use Rattle.up_model.specs.declared.kind.Kind.{Kind}
-use Rattle.up_model.specs.declared.limits.TheConstants.{DEFAULT_BLOCK, MAX_BLOCK, MAX_LIMIT, MAX_PACKET, MAX_PIPES}
+use Rattle.up_model.specs.declared.limits.TheConstants.{DEFAULT_BLOCK, MAX_BLOCK, MAX_LIMIT, MAX_PACKET, MAX_PIPES, MAX_VALUE}
 use Rattle.up_model.specs.declared.pipe.Pipe.{Pipe}
+use Rattle.up_model.specs.declared.value.Value.TheVariants.{Unsigned, Words}
 
 text_right : (passes : List ℕ → Bool) (found : Option Data) → IfSome (text_that passes found) (λ text. passes text ≡ true)
 text_right passes None = tt
@@ -39,26 +46,26 @@ text_right passes (Some (string text)) =
 text_right passes (Some value) = tt
 
 abbrev IsBetween : ℕ → ℕ → ℕ → Type 0
-IsBetween low high number = (low ≤ number) × (number ≤ high)
+IsBetween least most number = (least ≤ number) × (number ≤ most)
 
-number_right : (low high : ℕ) (value : Data) → IfSome (number_in low high value) (IsBetween low high)
-number_right low high (integer (pos number)) =
-    elim (cases_Bool (is_within low high number)) [
+number_right : (least most : ℕ) (value : Data) → IfSome (number_in least most value) (IsBetween least most)
+number_right least most (integer (pos number)) =
+    elim (cases_Bool (is_within least most number)) [
       | inl within ↦ rw within (grind (arith, nat_tests, within), grind (arith, nat_tests, within))
       | inr beyond ↦ rw beyond tt
     ]
-number_right low high (integer (negsuc number)) = tt
-number_right low high value = tt
+number_right least most (integer (negsuc number)) = tt
+number_right least most value = tt
 
-number_or_right : (missing : Option ℕ) (low high : ℕ) (found : Option Data) → IfSome missing (IsBetween low high)
-    → IfSome (number_or missing low high found) (IsBetween low high)
-number_or_right missing low high None fits = fits
-number_or_right missing low high (Some value) fits = number_right low high value
+number_or_right : (missing : Option ℕ) (least most : ℕ) (found : Option Data) → IfSome missing (IsBetween least most)
+    → IfSome (number_or missing least most found) (IsBetween least most)
+number_or_right missing least most None fits = fits
+number_or_right missing least most (Some value) fits = number_right least most value
 
-number_given : (key : List ℕ) (missing : Option ℕ) (low high : ℕ) (fields : Members) → IfSome missing (IsBetween low high)
-    → IfOk (given (a_number key low high missing) fields) (IsBetween low high)
-number_given key missing low high fields fits =
-    given_too key (IsBetween low high) (number_or missing low high (get_member key fields)) (number_or_right missing low high (get_member key fields) fits)
+number_given : (key : List ℕ) (missing : Option ℕ) (least most : ℕ) (fields : Members) → IfSome missing (IsBetween least most)
+    → IfOk (given (a_number key least most missing) fields) (IsBetween least most)
+number_given key missing least most fields fits =
+    given_too key (IsBetween least most) (number_or missing least most (get_member key fields)) (number_or_right missing least most (get_member key fields) fits)
 
 path_right : (fields : Members) → IfOk (given path fields) IsPath
 path_right fields =
@@ -90,11 +97,60 @@ skip_right fields =
     mapped _ (given bytes fields) _ (weaker (given bytes fields) (IsBetween 0 MAX_PACKET) _ (λ number right. (right.1, refl))
     (number_given (codes "bytes") None 0 MAX_PACKET fields tt))
 
+named_right : (key : List ℕ) (fields : Members) → IfOk (given (a_name key) fields) (λ name. is_name name ≡ true)
+named_right key fields = given_too key _ (text_that is_name (get_member key fields)) (text_right is_name (get_member key fields))
+
+value_legal : (found : Option Data) → IfSome (value_or_void found) IsLegalValue
+value_legal None = tt
+value_legal (Some (boolean flag)) = tt
+value_legal (Some (integer number)) =
+    made_too Unsigned (IsBetween 0 (2 ^ 64 - 1)) IsLegalValue (number_in 0 (2 ^ 64 - 1) (integer number)) (number_right 0 (2 ^ 64 - 1) (integer number))
+    (λ number within. omega (arith, within.1))
+value_legal (Some (string text)) =
+    made_too Words (λ text. is_value_text text ≡ true) IsLegalValue (text_that is_value_text (Some (string text))) (text_right is_value_text (Some (string text)))
+    (λ text is. let parts = and_parts (is_utf8 text) (nat_le (length text) MAX_VALUE) is in (parts.0, grind (arith, nat_tests, parts.1)))
+value_legal (Some value) = tt
+
+setattr_right : IsRight setattr_row
+setattr_right fields =
+    mapped _ (both (given attr fields) (given attr_value fields)) _
+    (weaker (both (given attr fields) (given attr_value fields)) (λ found. IsAttribute found.0 found.1) _ (λ found right. (right, refl))
+    (both_too (λ name. is_name name ≡ true) IsLegalValue (given attr fields) (given attr_value fields) (named_right (codes "attr") fields)
+    (given_too attr_value.name IsLegalValue (value_or_void (get_member attr_value.name fields)) (value_legal (get_member attr_value.name fields)))))
+
 delattr_right : IsRight delattr_row
 delattr_right fields = mapped _ (given attr fields) _ (weaker (given attr fields) _ _ (λ attr right. (tt, refl)) (anything (given attr fields)))
 
-name_right : (fields : Members) → IfOk (given pipe_name fields) (λ name. is_name name ≡ true)
-name_right fields = given_too pipe_name.name _ (pipe_name.value (get_member pipe_name.name fields)) (text_right is_name (get_member pipe_name.name fields))
+bounds_right : (fields : Members) → IfOk (both (given (low fields) fields) (given high fields)) (λ bounds. AreBounds bounds.0 bounds.1)
+bounds_right fields =
+    weaker (both (given (low fields) fields) (given high fields)) _ _ (λ bounds right. (right.0.1, omega (arith, right.1.1)))
+    (both_by (λ found. IsBetween 0 (greatest_low found)) (IsBetween 0 (2 ^ 64 - 1)) (given (low fields) fields) (given high fields)
+    (number_given (codes "low") (Some 0) 0 (greatest_low (given high fields)) fields (omega arith, omega arith))
+    (number_given (codes "high") (Some (2 ^ 64 - 1)) 0 (2 ^ 64 - 1) fields (omega arith, omega arith)))
+
+match_attr_right : IsRight match_attr_row
+match_attr_right fields =
+    let bounds = both (given (low fields) fields) (given high fields) in
+    mapped _ (both (given attr fields) bounds) _
+    (weaker (both (given attr fields) bounds) (λ found. Unit {0} × AreBounds found.1.0 found.1.1) _ (λ found right. (right.1, refl))
+    (both_too (λ name. Unit {0}) (λ bounds. AreBounds bounds.0 bounds.1) (given attr fields) bounds (anything (given attr fields)) (bounds_right fields)))
+
+shift_right : (found : Option Data) → IfSome (integer_in found) IsShift
+shift_right None = tt
+shift_right (Some (integer number)) =
+    elim (cases_Bool (int_le least_shift number && int_le number greatest_shift)) [
+      | inl within ↦ rw within (as_shift (and_parts (int_le least_shift number) (int_le number greatest_shift) within))
+      | inr beyond ↦ rw beyond tt
+    ]
+  where
+    as_shift : (int_le least_shift number ≡ true) × (int_le number greatest_shift ≡ true) → IsShift number
+    as_shift parts = (le_z_yes (rw parts.0 tt), le_z_yes (rw parts.1 tt))
+shift_right (Some value) = tt
+
+delay_right : IsRight delay_row
+delay_right fields =
+    mapped _ (given by fields) _
+    (weaker (given by fields) IsShift _ (λ by right. (right, refl)) (given_too by.name IsShift (integer_in (get_member by.name fields)) (shift_right (get_member by.name fields))))
 
 taken_right : (is : Bool) (tables : List Data) (fields : Members) → IfOk (taken_by is tables fields) (λ input. is_some input ≡ not is)
 taken_right true tables fields = refl
@@ -118,7 +174,7 @@ pipe_right row right tables fields =
     (λ found holds. made found.0 found.1.0 found.1.1 holds.0.0 holds.1.0 (rw holds.0.1 holds.1.1))
     (both_too _ _ (own_of row fields) ends
     (mapped _ (both _ (row.kind fields)) _ (weaker (both _ (row.kind fields)) _ _ (λ found holds. holds.1) (both_too (λ known. Unit {0}) _ _ (row.kind fields) (anything _) (right fields))))
-    (both_too _ _ (given pipe_name fields) (taken_by row.is_source tables fields) (name_right fields) (taken_right row.is_source tables fields))))
+    (both_too _ _ (given pipe_name fields) (taken_by row.is_source tables fields) (named_right (codes "name") fields) (taken_right row.is_source tables fields))))
 
 found_right : (row : Option KindRow) → IfSome row IsRight → (key : List ℕ) (tables : List Data) (fields : Members)
     → IfOk (pipe_by (or_wrong key row) tables fields) IsPipe
@@ -133,7 +189,10 @@ kind_right = each_kind IsRight (record {
   null = λ fields. (tt, refl);
   dup = λ fields. (tt, refl);
   skip = skip_right;
+  setattr = setattr_right;
   delattr = delattr_right;
+  match_attr = match_attr_right;
+  delay = delay_right;
 })
 
 value_right : (tables : List Data) (value : Data) → IfOk (pipe_in tables value) IsPipe

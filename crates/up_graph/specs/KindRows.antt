@@ -1,14 +1,15 @@
 -- The kinds of graph files: a row a kind.
-use Rattle.std.specs.Prelude.{ℕ, Bool, true, false, List, [], ◌∷◌, ◌++◌, codes, map, Option, Some, None, option_and_then, Ok, if◌then◌else◌}
+use Rattle.std.specs.Prelude.{◌-◌, ◌^◌, ℕ, ℤ, Bool, true, false, List, [], ◌∷◌, ◌++◌, codes, map, Option, Some, None, option_and_then, Ok, Err, if◌then◌else◌}
 use Rattle.std.specs.Option.{is_some}
 use Rattle.std.specs.Str.{bytes_eq}
 use Rattle.toml.specs.Data.{Data, Members, as_str}
+use Rattle.up_graph.specs.AttrValue.{attr_value}
 use Rattle.up_graph.specs.Field.{Field, field_map, both, Rule, given, known_alone}
-use Rattle.up_graph.specs.Values.{a_name, a_path, a_number, an_input}
+use Rattle.up_graph.specs.Values.{a_name, a_path, a_number, an_input, an_integer}
 use Rattle.up_model.specs.declared.form.SinkForm.TheVariants as sink_forms
 use Rattle.up_model.specs.declared.form.SourceForm.TheVariants as source_forms
 use Rattle.up_model.specs.declared.kind.Kind.{Kind}
-use Rattle.up_model.specs.declared.kind.Kind.TheVariants.{Source, Sink, Idem, Null, Dup, Skip, DelAttr}
+use Rattle.up_model.specs.declared.kind.Kind.TheVariants.{Source, Sink, Idem, Null, Dup, Skip, SetAttr, DelAttr, MatchAttr, Delay}
 use Rattle.up_model.specs.declared.limits.TheConstants.{DEFAULT_BLOCK, MAX_BLOCK, MAX_LIMIT, MAX_PACKET}
 
 -- a field by its name, and whether what stands there is right
@@ -19,10 +20,10 @@ pub record FieldTest : Type 0 where
 abbrev pub test_of : {A : Type 0} → Rule A → FieldTest
 test_of rule = record { name = rule.name; is_right = λ found. is_some (rule.value found) }
 
--- a kind: whether it takes from no other pipe, its own fields, and what they give
+-- a kind: whether it takes from no other pipe, the tests of its own fields in a table, and what they give
 pub record KindRow : Type 0 where
   pub is_source : Bool
-  pub own : List FieldTest
+  pub own : Members → List FieldTest
   pub kind : Members → Field Kind
 
 abbrev pub path : Rule (List ℕ)
@@ -37,7 +38,7 @@ limit = a_number (codes "limit") 0 MAX_LIMIT (Some MAX_LIMIT)
 abbrev pub source_row : KindRow
 source_row = record {
   is_source = true;
-  own = test_of path ∷ test_of block ∷ test_of limit ∷ [];
+  own = λ table. test_of path ∷ test_of block ∷ test_of limit ∷ [];
   kind = λ table.
       field_map (λ found. Source found.0 (source_forms.Raw found.1.0) found.1.1)
       (both (given path table) (both (given block table) (given limit table)));
@@ -46,7 +47,7 @@ source_row = record {
 abbrev pub sink_row : KindRow
 sink_row = record {
   is_source = false;
-  own = test_of path ∷ [];
+  own = λ table. test_of path ∷ [];
   kind = λ table. field_map (λ found. Sink found sink_forms.Raw) (given path table);
 }
 
@@ -56,23 +57,62 @@ bytes = a_number (codes "bytes") 0 MAX_PACKET None
 abbrev pub skip_row : KindRow
 skip_row = record {
   is_source = false;
-  own = test_of bytes ∷ [];
+  own = λ table. test_of bytes ∷ [];
   kind = λ table. field_map Skip (given bytes table);
 }
 
 abbrev pub attr : Rule (List ℕ)
 attr = a_name (codes "attr")
 
+abbrev pub setattr_row : KindRow
+setattr_row = record {
+  is_source = false;
+  own = λ table. test_of attr ∷ test_of attr_value ∷ [];
+  kind = λ table.
+      field_map (λ found. SetAttr found.0 found.1)
+      (both (given attr table) (given attr_value table));
+}
+
 abbrev pub delattr_row : KindRow
 delattr_row = record {
   is_source = false;
-  own = test_of attr ∷ [];
+  own = λ table. test_of attr ∷ [];
   kind = λ table. field_map DelAttr (given attr table);
+}
+
+abbrev pub high : Rule ℕ
+high = a_number (codes "high") 0 (2 ^ 64 - 1) (Some (2 ^ 64 - 1))
+
+-- the greatest `low`: the `high` of the table, where that is right
+abbrev pub greatest_low : Field ℕ → ℕ
+greatest_low (Ok high) = high
+greatest_low (Err key) = 2 ^ 64 - 1
+
+abbrev pub low : Members → Rule ℕ
+low table = a_number (codes "low") 0 (greatest_low (given high table)) (Some 0)
+
+abbrev pub match_attr_row : KindRow
+match_attr_row = record {
+  is_source = false;
+  own = λ table. test_of attr ∷ test_of (low table) ∷ test_of high ∷ [];
+  kind = λ table.
+      field_map (λ found. MatchAttr found.0 found.1.0 found.1.1)
+      (both (given attr table) (both (given (low table) table) (given high table)));
+}
+
+abbrev pub by : Rule ℤ
+by = an_integer (codes "by")
+
+abbrev pub delay_row : KindRow
+delay_row = record {
+  is_source = false;
+  own = λ table. test_of by ∷ [];
+  kind = λ table. field_map Delay (given by table);
 }
 
 -- a kind without fields of its own
 abbrev pub plain_row : Kind → KindRow
-plain_row kind = record { is_source = false; own = []; kind = λ table. Ok kind }
+plain_row kind = record { is_source = false; own = λ table. []; kind = λ table. Ok kind }
 
 abbrev pub row_of : List ℕ → Option KindRow
 row_of word =
@@ -82,7 +122,10 @@ row_of word =
     else if bytes_eq word (codes "null") then Some (plain_row Null)
     else if bytes_eq word (codes "dup") then Some (plain_row Dup)
     else if bytes_eq word (codes "skip") then Some skip_row
+    else if bytes_eq word (codes "setattr") then Some setattr_row
     else if bytes_eq word (codes "delattr") then Some delattr_row
+    else if bytes_eq word (codes "match_attr") then Some match_attr_row
+    else if bytes_eq word (codes "delay") then Some delay_row
     else None
 
 -- the word of a kind
@@ -99,15 +142,15 @@ pipe_name = a_name (codes "name")
 abbrev pub inputs_of : KindRow → List FieldTest
 inputs_of row = if row.is_source then [] else test_of an_input ∷ []
 
--- the fields that a pipe of the kind can have
-abbrev pub fields_of : KindRow → List FieldTest
-fields_of row = (test_of pipe_name ∷ test_of a_kind ∷ inputs_of row) ++ row.own
+-- the fields that a pipe of the kind can have, and their tests in this table
+abbrev pub fields_of : KindRow → Members → List FieldTest
+fields_of row table = (test_of pipe_name ∷ test_of a_kind ∷ inputs_of row) ++ row.own table
 
-abbrev pub names_of : KindRow → List (List ℕ)
-names_of row = map (λ test. test.name) (fields_of row)
+abbrev pub names_of : KindRow → Members → List (List ℕ)
+names_of row table = map (λ test. test.name) (fields_of row table)
 
 -- the kind that a table gives which has no fields but these
 abbrev pub own_of : KindRow → Members → Field Kind
 own_of row table =
     field_map (λ found. found.1)
-    (both (known_alone (names_of row) table) (row.kind table))
+    (both (known_alone (names_of row table) table) (row.kind table))

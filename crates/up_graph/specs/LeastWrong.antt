@@ -18,12 +18,12 @@ is_refused key fields test = bytes_eq test.name key && not (test.is_right (get_m
 
 -- something stands there, and the kind has no such field
 abbrev pub is_not_allowed : KindRow → List ℕ → Members → Bool
-is_not_allowed row key fields = is_among key (keys fields) && not (is_among key (names_of row))
+is_not_allowed row key fields = is_among key (keys fields) && not (is_among key (names_of row fields))
 
 -- the field is wrong in the table of a pipe of this kind
 abbrev pub is_wrong : KindRow → Members → List ℕ → Bool
 is_wrong row fields key =
-    list_any (is_refused key fields) (fields_of row) || is_not_allowed row key fields
+    list_any (is_refused key fields) (fields_of row fields) || is_not_allowed row key fields
 
 -- the first of the two names comes first in byte order
 abbrev pub IsBefore : List ℕ → List ℕ → Type 0

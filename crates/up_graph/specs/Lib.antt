@@ -1,4 +1,5 @@
 pub mod Answers
+pub mod AttrValue
 pub mod Document
 pub mod Faults
 pub mod Field

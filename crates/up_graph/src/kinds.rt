@@ -2,11 +2,12 @@
 ghost use Rattle.std.specs.Prelude.{◌≡◌, false, Some, IfOk, option_map};
 ghost use Rattle.toml.specs.View.{table_view};
 ghost use Rattle.up_graph.specs.Field.{seen};
-ghost use Rattle.up_graph.specs.KindRows.{delattr_row, own_of, plain_row, row_of, sink_row, skip_row, source_row};
+ghost use Rattle.up_graph.specs.KindRows.{delattr_row, delay_row, greatest_low, match_attr_row, own_of, plain_row, row_of, setattr_row, sink_row, skip_row, source_row};
 ghost use Rattle.up_graph.specs.KindSeen.{kind_seen, row_seen};
 
+use crate::attr_value::attr_value_at;
 use crate::field::{both, known_alone};
-use crate::values::{name_at, number_at, path_at, short_number_at};
+use crate::values::{integer_at, name_at, number_at, path_at, short_number_at};
 use std::alloc::Global;
 use toml::Table;
 use up_base::{NoMemory, Text};
@@ -75,6 +76,19 @@ fn skip_at<'a>(table: &'a Table) -> Result<Kind, &'a str>
     }
 }
 
+fn setattr_at<'a>(alloc: Global, table: &'a Table) -> Result<Result<Kind, &'a str>, NoMemory>
+    ensures { IfOk result (λ kind. seen (λ kind. kind) kind
+        ≡ own_of setattr_row (table_view table.entry.now)) }
+{
+    let own = both(name_at(table, "attr"), attr_value_at(alloc, table)?);
+    Ok(
+        match both(known_alone(table, &TAKING, &["attr", "value"]), own) {
+            Ok((_, (attr, value))) => Ok(Kind::SetAttr { attr, value }),
+            Err(field) => Err(field),
+        },
+    )
+}
+
 fn delattr_at<'a>(table: &'a Table) -> Result<Kind, &'a str>
     ensures { seen (λ kind. kind) result ≡ own_of delattr_row (table_view table.entry.now) }
 {
@@ -83,6 +97,40 @@ fn delattr_at<'a>(table: &'a Table) -> Result<Kind, &'a str>
         name_at(table, "attr"),
     ) {
         Ok((_, attr)) => Ok(Kind::DelAttr { attr }),
+        Err(field) => Err(field),
+    }
+}
+
+/// The greatest `low` beside what stands at `high`.
+fn greatest_low(high: &Result<u64, &str>) -> u64
+    ensures { result ≡ greatest_low (seen (λ number. number) high.now) }
+{
+    match high {
+        Ok(high) => *high,
+        Err(_) => u64::MAX,
+    }
+}
+
+fn match_attr_at<'a>(table: &'a Table) -> Result<Kind, &'a str>
+    ensures { seen (λ kind. kind) result ≡ own_of match_attr_row (table_view table.entry.now) }
+{
+    let high = number_at(table, "high", 0, u64::MAX, Some(u64::MAX));
+    let low = number_at(table, "low", 0, greatest_low(&high), Some(0));
+    let own = both(name_at(table, "attr"), both(low, high));
+    match both(known_alone(table, &TAKING, &["attr", "low", "high"]), own) {
+        Ok((_, (attr, (low, high)))) => Ok(Kind::MatchAttr { attr, low, high }),
+        Err(field) => Err(field),
+    }
+}
+
+fn delay_at<'a>(table: &'a Table) -> Result<Kind, &'a str>
+    ensures { seen (λ kind. kind) result ≡ own_of delay_row (table_view table.entry.now) }
+{
+    match both(
+        known_alone(table, &TAKING, &["by"]),
+        integer_at(table, "by"),
+    ) {
+        Ok((_, by)) => Ok(Kind::Delay { by }),
         Err(field) => Err(field),
     }
 }
@@ -126,7 +174,10 @@ pub fn kind_at<'a>(
         "null" => taking(plain_at(table, Kind::Null)),
         "dup" => taking(plain_at(table, Kind::Dup)),
         "skip" => taking(skip_at(table)),
+        "setattr" => taking(setattr_at(alloc, table)?),
         "delattr" => taking(delattr_at(table)),
+        "match_attr" => taking(match_attr_at(table)),
+        "delay" => taking(delay_at(table)),
         _ => None,
     })
 }

@@ -1,6 +1,7 @@
 //! Reads a graph of pipes from the TOML text of a graph file.
 #![tactic(auto)]
 
+mod attr_value;
 mod document;
 mod faults;
 mod field;

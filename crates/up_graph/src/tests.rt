@@ -1,7 +1,9 @@
+mod attr_tables;
 mod graphs;
 mod tables;
 mod words;
 
+use self::attr_tables::{DELAY_PIPES, MATCH_ATTR_PIPES, SETATTR_PIPES};
 use self::graphs::GRAPHS;
 use self::tables::{FIRST_PIPES, MIDDLE_PIPES, SPELLINGS, TOPS};
 use self::words::{answer, input_words, pipe_words, refusal_words};
@@ -122,6 +124,19 @@ fn each_kind_has_its_fields_and_the_least_wrong_one_is_told(rt: HostRuntime) -> 
     let wrong = wrong_pipes(&rt, "", &FIRST_PIPES, sink, 0)?;
     assert_eq!(rt; wrong.as_str(), "");
     let wrong = wrong_pipes(&rt, source, &MIDDLE_PIPES, end, 1)?;
+    assert_eq!(rt; wrong.as_str(), "");
+    Ok(())
+}
+
+#[test]
+fn the_kinds_of_attributes_have_their_fields(rt: HostRuntime) -> Result<(), Fail> {
+    let source = "{name = 'a', kind = 'source', path = 'i'}, ";
+    let end = ", {name = 'c', kind = 'sink', input = 'b', path = 'o'}";
+    let wrong = wrong_pipes(&rt, source, &SETATTR_PIPES, end, 1)?;
+    assert_eq!(rt; wrong.as_str(), "");
+    let wrong = wrong_pipes(&rt, source, &MATCH_ATTR_PIPES, end, 1)?;
+    assert_eq!(rt; wrong.as_str(), "");
+    let wrong = wrong_pipes(&rt, source, &DELAY_PIPES, end, 1)?;
     assert_eq!(rt; wrong.as_str(), "");
     Ok(())
 }
@@ -273,6 +288,32 @@ fn names_and_paths_have_a_greatest_length(rt: HostRuntime) -> Result<(), Fail> {
             format!(in alloc; "delattr {attr} < 0")?
         } else {
             format!(in alloc; "{refused}")?
+        };
+        let told = answer(&rt, text.as_bytes(), 1)?;
+        assert_eq!(rt; told.as_str(), wanted.as_str());
+    }
+    Ok(())
+}
+
+#[test]
+fn the_text_of_an_attribute_has_at_most_4096_bytes(rt: HostRuntime) -> Result<(), Fail> {
+    let alloc = rt.alloc();
+    for (letter, count, fits) in [
+        ("t", 4096, true),
+        ("t", 4097, false),
+        ("\u{e4}", 2048, true),
+        ("\u{e4}", 2049, false),
+    ] {
+        let words = repeated(&rt, letter, count)?;
+        let text = format!(in alloc;
+            "version = 1\npipe = [{{name = 'a', kind = 'source', path = 'i'}}, \
+            {{name = 'b', kind = 'setattr', attr = 'k', value = '{words}', input = 'a'}}, \
+            {{name = 'c', kind = 'null', input = 'b'}}]"
+        )?;
+        let wanted = if fits {
+            format!(in alloc; "setattr k text '{words}' < 0")?
+        } else {
+            format!(in alloc; "2: value")?
         };
         let told = answer(&rt, text.as_bytes(), 1)?;
         assert_eq!(rt; told.as_str(), wanted.as_str());

@@ -1,8 +1,10 @@
 // What is read, in words that tables compare.
+ghost use Rattle.std.specs.Prelude.{◌<◌, length, string_bytes, IfOk};
+
 use crate::{GraphRefused, read_graph};
 use std::string::String;
 use std::test::*;
-use up_model::{Graph, Kind, Pipe, SourceForm};
+use up_model::{Graph, Kind, Pipe, SourceForm, Value};
 
 /// A refusal with its numbers.
 pub fn refusal_words(rt: &HostRuntime, refused: &GraphRefused) -> Result<String, Fail> {
@@ -30,7 +32,22 @@ pub fn refusal_words(rt: &HostRuntime, refused: &GraphRefused) -> Result<String,
     })
 }
 
-fn kind_words(rt: &HostRuntime, kind: &Kind) -> Result<String, Fail> {
+fn value_words(rt: &HostRuntime, value: &Value) -> Result<String, Fail>
+    ensures { IfOk result (λ words. 0 < length (string_bytes words)) }
+{
+    let alloc = rt.alloc();
+    match value {
+        Value::Void => Ok(format!(in alloc; "void")?),
+        Value::Flag(flag) => Ok(format!(in alloc; "flag {flag}")?),
+        Value::Unsigned(number) => Ok(format!(in alloc; "number {number}")?),
+        Value::Words(text) => Ok(format!(in alloc; "text '{}'", text.as_str())?),
+        Value::Opaque(bytes) => Ok(format!(in alloc; "bytes {}", bytes.as_slice().len())?),
+    }
+}
+
+fn kind_words(rt: &HostRuntime, kind: &Kind) -> Result<String, Fail>
+    ensures { IfOk result (λ words. 0 < length (string_bytes words)) }
+{
     let alloc = rt.alloc();
     Ok(match kind {
         Kind::Source {
@@ -43,10 +60,20 @@ fn kind_words(rt: &HostRuntime, kind: &Kind) -> Result<String, Fail> {
         Kind::Null => format!(in alloc; "null")?,
         Kind::Dup => format!(in alloc; "dup")?,
         Kind::Skip { bytes } => format!(in alloc; "skip {bytes}")?,
+        Kind::SetAttr { attr, value } => {
+            let attr = std::str::from_utf8(attr.bytes())?;
+            let value = value_words(rt, value)?;
+            format!(in alloc; "setattr {attr} {value}")?
+        }
         Kind::DelAttr { attr } => {
             let attr = std::str::from_utf8(attr.bytes())?;
             format!(in alloc; "delattr {attr}")?
         }
+        Kind::MatchAttr { attr, low, high } => {
+            let attr = std::str::from_utf8(attr.bytes())?;
+            format!(in alloc; "match_attr {attr} {low} {high}")?
+        }
+        Kind::Delay { by } => format!(in alloc; "delay {by}")?,
     })
 }
 
