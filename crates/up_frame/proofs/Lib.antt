@@ -1,5 +1,6 @@
 pub mod AttrBytes
 pub mod Attributes
+pub mod FedBytes
 pub mod Fields
 pub mod FoundFrames
 pub mod FrameExamples
@@ -9,7 +10,6 @@ pub mod MoreBytes
 pub mod Packets
 pub mod Parts
 pub mod ReadAttributes
-pub mod ScannedBytes
 pub mod SetAttributes
 pub mod Shorter
 pub mod Steady

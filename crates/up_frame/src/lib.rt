@@ -3,7 +3,6 @@
 
 mod frame_parts;
 mod frame_reader;
-mod frame_scanner;
 mod judged;
 mod judging;
 mod laws;
@@ -14,7 +13,6 @@ mod refusals;
 mod writing;
 
 pub use frame_reader::FrameReader;
-pub use frame_scanner::FrameScanner;
 pub use laws::{
     frames_are_read_back, no_frame_begins_another, what_was_judged_stays, whole_frames_are_all,
     whole_frames_come_one_by_one,
@@ -25,8 +23,10 @@ pub use refusals::{BadFrame, FeedRefused};
 pub use writing::write_frame;
 
 #[cfg(test)]
-mod reader_tests;
+mod answer_tests;
 #[cfg(test)]
-mod scanner_tests;
+mod field_tests;
+#[cfg(test)]
+mod reader_tests;
 #[cfg(test)]
 mod tests;

@@ -21,7 +21,7 @@ ghost use Rattle.up_frame.specs.Fronts.{
   content_at,
   packet_at,
 };
-ghost use Rattle.up_frame.specs.Reading.{BeginsWithFrame, Ends, Gives, Parted};
+ghost use Rattle.up_frame.specs.Reading.{BeginsWithFrame, Ends, Finds, Parted};
 ghost use Rattle.up_frame.specs.Types.{type_with};
 ghost use Rattle.up_model.specs.Value.{lent};
 ghost use Rattle.up_model.specs.declared.limits.TheConstants.{MAX_ATTRS, MAX_PACKET};
@@ -34,7 +34,7 @@ use up_model::{MAX_ATTRS, MAX_PACKET, MAX_VALUE, ValueView};
 
 /// A field of so many bytes, whatever they are, and what is behind it.
 fn cut(bytes: &[u8], size: usize) -> Result<(&[u8], &[u8]), NotWhole>
-    ensures { Gives (λ x. (x.0.now, x.1.now)) result (field size is_any bytes.now) }
+    ensures { Finds (λ x. (x.0.now, x.1.now)) result (field size is_any bytes.now) }
 {
     if bytes.len() < size {
         return Err(NotWhole::Unfinished);
@@ -44,7 +44,7 @@ fn cut(bytes: &[u8], size: usize) -> Result<(&[u8], &[u8]), NotWhole>
 
 /// What is behind a byte that is this number.
 pub(crate) fn behind_byte(bytes: &[u8], number: u8) -> Result<&[u8], NotWhole>
-    ensures { Gives (λ rest. (number, rest.now)) result
+    ensures { Finds (λ rest. (number, rest.now)) result
         (number_at 1 (λ byte. byte == number) bytes.now) }
 {
     match bytes {
@@ -61,7 +61,7 @@ pub(crate) fn behind_byte(bytes: &[u8], number: u8) -> Result<&[u8], NotWhole>
 
 /// How many bytes a name has.
 fn name_size_at(bytes: &[u8]) -> Result<(usize, &[u8]), NotWhole>
-    ensures { Gives (λ x. (x.0, x.1.now)) result (number_at 1 (is_within 1 NAME_SIZE) bytes.now) }
+    ensures { Finds (λ x. (x.0, x.1.now)) result (number_at 1 (is_within 1 NAME_SIZE) bytes.now) }
 {
     match bytes {
         [] => Err(NotWhole::Unfinished),
@@ -77,7 +77,7 @@ fn name_size_at(bytes: &[u8]) -> Result<(usize, &[u8]), NotWhole>
 
 /// How many attributes there are.
 pub(crate) fn count_at(bytes: &[u8]) -> Result<(u16, &[u8]), NotWhole>
-    ensures front { Gives (λ x. (x.0, x.1.now)) result
+    ensures front { Finds (λ x. (x.0, x.1.now)) result
         (number_at 2 (λ count. nat_le count MAX_ATTRS) bytes.now) }
     ensures few { IfOk result (λ x. x.0 ≤ MAX_ATTRS) }
 {
@@ -93,7 +93,7 @@ pub(crate) fn count_at(bytes: &[u8]) -> Result<(u16, &[u8]), NotWhole>
 
 /// How many bytes the packet has.
 pub(crate) fn size_at(bytes: &[u8]) -> Result<(u32, &[u8]), NotWhole>
-    ensures front { Gives (λ x. (x.0, x.1.now)) result
+    ensures front { Finds (λ x. (x.0, x.1.now)) result
         (number_at 4 (λ size. nat_le size MAX_PACKET) bytes.now) }
     ensures few { IfOk result (λ x. x.0 ≤ MAX_PACKET) }
 {
@@ -122,7 +122,7 @@ fn may_have(type_: ValueType, size: u32) -> bool
 
 /// How many bytes a value of this type has.
 fn value_size_at(bytes: &[u8], type_: ValueType) -> Result<(u32, &[u8]), NotWhole>
-    ensures front { Gives (λ x. (x.0, x.1.now)) result
+    ensures front { Finds (λ x. (x.0, x.1.now)) result
         (number_at 4 (is_size_of type_) bytes.now) }
     ensures size { IfOk result (λ x. is_size_of type_ x.0 ≡ true) }
 {
@@ -152,7 +152,7 @@ fn type_numbered(number: u8) -> Option<ValueType>
 
 /// The type whose number comes first.
 fn front_type(bytes: &[u8]) -> Result<(ValueType, &[u8]), NotWhole>
-    ensures { Gives (λ x. (x.0, x.1.now)) result (type_at bytes.now) }
+    ensures { Finds (λ x. (x.0, x.1.now)) result (type_at bytes.now) }
 {
     match bytes {
         [] => Err(NotWhole::Unfinished),
@@ -227,7 +227,7 @@ fn name_at<'a>(
     size: usize,
     before: &[u8],
 ) -> Result<(&'a [u8], &'a [u8]), NotWhole>
-    ensures front { Gives (λ x. (x.0.now, x.1.now)) result
+    ensures front { Finds (λ x. (x.0.now, x.1.now)) result
         (field size (is_name_behind before.now) bytes.now) }
     ensures name { IfOk result (λ x. is_name x.0.now ≡ true) }
 {
@@ -248,7 +248,7 @@ fn content_of(
     type_: ValueType,
 ) -> Result<(ValueView<'_>, &[u8]), NotWhole>
     requires { is_size_of type_ size ≡ true }
-    ensures { Gives (λ x. (lent x.0, x.1.now)) result
+    ensures { Finds (λ x. (lent x.0, x.1.now)) result
         (as_value type_ (field size (is_value_of type_) bytes.now)) }
 {
     if bytes.len() < size {
@@ -264,7 +264,7 @@ fn content_of(
 /// A value of this type behind its length, and what is behind it.
 #[tactic(auto, unfolding(crate::specs::Fronts::value_at))]
 fn value(bytes: &[u8], type_: ValueType) -> Result<(ValueView<'_>, &[u8]), NotWhole>
-    ensures { Gives (λ x. (lent x.0, x.1.now)) result (value_at type_ bytes.now) }
+    ensures { Finds (λ x. (lent x.0, x.1.now)) result (value_at type_ bytes.now) }
 {
     let (size, rest) = value_size_at(bytes, type_)?;
     content_of(rest, size as usize, type_)
@@ -276,7 +276,7 @@ pub(crate) fn attribute<'a>(
     bytes: &'a [u8],
     before: &[u8],
 ) -> Result<(&'a [u8], ValueView<'a>, &'a [u8]), NotWhole>
-    ensures front { Gives (λ x. ((x.0.now, lent x.1), x.2.now)) result
+    ensures front { Finds (λ x. ((x.0.now, lent x.1), x.2.now)) result
         (attribute_at before.now bytes.now) }
     ensures name { IfOk result (λ x. is_name x.0.now ≡ true) }
 {

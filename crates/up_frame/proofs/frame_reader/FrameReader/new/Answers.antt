@@ -1,6 +1,6 @@
 use Rattle.std.proofs.Common.{[], refl, sym, ap, ◌∙◌}
 use Rattle.std.proofs.lemmas.List.Elements.{All-nil}
-use Rattle.up_frame.proofs.ScannedBytes.{nothing_unfinished}
+use Rattle.up_frame.proofs.FedBytes.{nothing_unfinished}
 use Rattle.up_frame.specs.Fronts.{packet_at}
 use Rattle.up_model.specs.Packet.{IsLegal}
 use Rattle.up_frame.proofs.frame_reader.FrameReader.new.Goals as goal

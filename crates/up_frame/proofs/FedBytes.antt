@@ -1,12 +1,10 @@
 -- Bytes that are fed piece by piece, and their rest.
-use Rattle.std.proofs.Common.{◌≡◌, ℕ, ◌+◌, ◌-◌, ◌<◌, List, [], ◌∷◌, ◌++◌, length, drop, Option, Some, None, Ok, Err, refl, sym, ap, subst, ◌∙◌, arith}
+use Rattle.std.proofs.Common.{◌≡◌, ℕ, ◌+◌, ◌-◌, ◌<◌, List, [], ◌∷◌, ◌++◌, length, drop, Option, Some, None, Ok, Err, refl, sym, ap, ◌∙◌, arith}
 use Rattle.std.proofs.lemmas.List.{drop-drop}
-use Rattle.up_frame.proofs.GoingOn.{grows}
 use Rattle.up_frame.proofs.MoreBytes.{grown, is_broken}
 use Rattle.up_frame.proofs.Streams.{first_is, none_is}
 use Rattle.up_frame.specs.Fronts.{Front, packet_at}
 use Rattle.up_frame.specs.Judging.{IsJudged, IsRest, EndsAt}
-use Rattle.up_frame.specs.Scanners.{Keeps}
 use Rattle.up_frame.specs.Streams.{Stream, rest_of_frames, rest_place, broken_where, broken_at, place_of_some, cut_at}
 use Rattle.up_frame.specs.declared.judged.Judged.{Judged}
 use Rattle.up_frame.specs.declared.layout.NotWhole.{NotWhole}
@@ -39,22 +37,12 @@ passed_all bytes place refused before judged e on so_far = record {
 pub rest_of_more : (bytes more : List ℕ) → rest_of_frames (bytes ++ more) ≡ rest_of_frames (rest_of_frames bytes ++ more)
 rest_of_more bytes more = ap (λ (s : Stream). s.rest) (grown (length bytes) bytes more (omega arith))
 
--- the rest of what was fed, with a piece more
-pub rest_is : (bytes piece held : List ℕ) (place : ℕ) (refused : NotWhole) (judged : Option Judged) → rest_of_frames bytes ≡ held
-    → IsRest (held ++ piece) place refused judged → rest_of_frames (bytes ++ piece) ≡ drop place (held ++ piece)
-rest_is bytes piece held place refused judged before is =
-    rest_of_more bytes piece ∙ ap (λ (front : List ℕ). rest_of_frames (front ++ piece)) before ∙ is.rest
-
 -- where the rest is broken
 pub broken_rest : (bytes rest : List ℕ) (refused : NotWhole) → rest_of_frames bytes ≡ rest → packet_at rest ≡ Err refused
     → broken_at bytes ≡ broken_where (length bytes - length rest) (Err refused)
 broken_rest bytes rest refused is e =
     ap (λ (r : List ℕ). broken_where (length bytes - length r) (packet_at r)) is
     ∙ ap (λ (front : Front PlainPacket). broken_where (length bytes - length rest) front) e
-
--- where it is held
-pub place_held : (bytes held : List ℕ) → rest_of_frames bytes ≡ held → rest_place bytes ≡ length bytes - length held
-place_held bytes held is = ap (λ (r : List ℕ). length bytes - length r) is
 
 -- where the bytes are cut
 pub cut_held : (bytes held : List ℕ) → rest_of_frames bytes ≡ held → cut_at bytes ≡ place_of_some (length bytes - length held) held
@@ -74,9 +62,6 @@ none_there place (byte ∷ bytes) none = absurd (omega (arith, none))
 pub cut_none : (bytes held : List ℕ) → rest_of_frames bytes ≡ held → length held ≡ 0 → cut_at bytes ≡ None
 cut_none bytes held is none = cut_held bytes held is ∙ none_there (length bytes - length held) held none
 
-pub broken_place : (bytes : List ℕ) (place : ℕ) → broken_at bytes ≡ Some place → rest_place bytes ≡ place
-broken_place bytes place e = (is_broken (rest_place bytes) place (packet_at (rest_of_frames bytes)) e).1
-
 pub nothing_unfinished : packet_at [] ≡ Err Unfinished
 unfolding packet_at
 nothing_unfinished = refl
@@ -93,25 +78,3 @@ pub cut_broken : (bytes : List ℕ) (place : ℕ) → broken_at bytes ≡ Some p
 cut_broken bytes place e =
     let broken = is_broken (rest_place bytes) place (packet_at (rest_of_frames bytes)) e in
     some_broken (rest_place bytes) (rest_of_frames bytes) broken.0 ∙ ap Some broken.1
-
--- bytes whose rest is this one, judged so far
-pub record IsFed (bytes rest : List ℕ) (refused : NotWhole) (judged : Option Judged) : Type 0 where
-  pub rest_is : rest_of_frames bytes ≡ rest
-  pub front : packet_at rest ≡ Err refused
-  pub on : IsJudged judged rest
-
--- a piece was added to what is held, and its whole frames were taken away
-pub fed_open : (bytes piece held text now : List ℕ) (start : ℕ) (before first judged : Option Judged) (found refused : NotWhole)
-    → Keeps None before held bytes → text ≡ held ++ piece → first ≡ before → found ≡ refused → now ≡ drop start text
-    → (IsJudged first text → IsRest text start found judged) → IsFed (bytes ++ piece) now refused judged
-fed_open bytes piece held text now start before first judged found refused keeps text_is first_is found_is now_is rest =
-    let judged_more : IsJudged before (held ++ piece) = grows before held piece keeps.1.1 in
-    let first_judged : IsJudged first text =
-    subst (λ j. IsJudged j text) (sym first_is) (subst (IsJudged before) (sym text_is) judged_more) in
-    let is = rest first_judged in
-    let whole : IsRest (held ++ piece) start found judged = subst (λ t. IsRest t start found judged) text_is is in
-    record {
-      rest_is = rest_is bytes piece held start found judged keeps.0 whole ∙ ap (drop start) (sym text_is) ∙ sym now_is;
-      front = ap packet_at now_is ∙ is.front ∙ ap (λ r. Err r) found_is;
-      on = subst (IsJudged judged) (sym now_is) is.on;
-    }
