@@ -1,3 +1,4 @@
+pub mod AllFields
 pub mod AttrBytes
 pub mod Attributes
 pub mod FedBytes

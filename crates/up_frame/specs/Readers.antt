@@ -15,7 +15,8 @@ use Rattle.up_frame.specs.declared.refusals.FeedRefused.TheVariants as refusals
 use Rattle.up_model.specs.Packet.{Flow, IsLegal}
 use Rattle.up_model.specs.declared.plain_packet.PlainPacket.{PlainPacket}
 
--- nothing is broken, and the unfinished rest is held and judged so far; or a frame is broken at the place, and nothing of it is held
+-- nothing is broken, and the unfinished rest is held and judged so far; or a frame is broken at the place,
+-- and nothing of it is held
 abbrev pub Keeps : Option ℕ → Option Judged → List ℕ → List ℕ → Type 0
 Keeps None judged held bytes =
     (rest_of_frames bytes ≡ held) × ((packet_at held ≡ Err Unfinished) × IsJudged judged held)
@@ -67,7 +68,8 @@ fed_with bytes piece (Ok done) = bytes ++ piece
 fed_with bytes piece (Err (refusals.BadFrame offset)) = bytes ++ piece
 fed_with bytes piece (Err refusals.NoMemory) = bytes
 
--- the piece was added, unless there was no room and nothing is broken; a broken frame is told by its place
+-- the piece was added, unless there was no room and nothing is broken; a broken frame is told by its
+-- place
 abbrev pub Feeds : FrameReader → FrameReader → List ℕ → Result (Unit {0}) FeedRefused → Type 0
 Feeds old new piece result = (bytes : List ℕ) (given : Flow) → StandsFor old bytes given
     → StandsFor new (fed_with bytes piece result) given

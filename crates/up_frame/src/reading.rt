@@ -1,7 +1,5 @@
 //! What stands at the front of bytes, field by field.
 ghost use Rattle.std.specs.Prelude.{◌≡◌, ◌==◌, ◌≤◌, nat_le, true, false, [], length, IfOk, MatchOption};
-ghost use Rattle.std.specs.Cmp.Lexicographic.{slice_cmp};
-ghost use Rattle.std.specs.Ordering.{nat_cmp, is_lt};
 ghost use Rattle.std.specs.Str.{is_utf8};
 ghost use Rattle.up_base.specs.Name.{is_name, is_within};
 ghost use Rattle.up_base.specs.declared.name_text.TheConstants.{NAME_SIZE};
@@ -28,7 +26,6 @@ ghost use Rattle.up_model.specs.declared.limits.TheConstants.{MAX_ATTRS, MAX_PAC
 
 use crate::frame_parts::FrameParts;
 use crate::layout::{MARK, NotWhole, VERSION, ValueType};
-use std::cmp::Ordering;
 use up_base::{AttrName, read_u16, read_u32, read_u64};
 use up_model::{MAX_ATTRS, MAX_PACKET, MAX_VALUE, ValueView};
 
@@ -173,21 +170,11 @@ fn is_named(name: &[u8]) -> bool
     }
 }
 
-/// Whether one is less than the other in byte order.
-fn is_before(before: &[u8], name: &[u8]) -> bool
-    ensures { result ≡ is_lt (slice_cmp nat_cmp before.now name.now) }
-{
-    match before.cmp(name) {
-        Ordering::Less => true,
-        Ordering::Equal | Ordering::Greater => false,
-    }
-}
-
 /// Whether the bytes are a name that stands behind another in byte order.
 fn is_behind(before: &[u8], name: &[u8]) -> bool
     ensures { result ≡ is_name_behind before.now name.now }
 {
-    is_named(name) && is_before(before, name)
+    is_named(name) && before.cmp(name).is_lt()
 }
 
 /// The text that the bytes are, where they are UTF-8.
