@@ -4,25 +4,24 @@ use Rattle.std.proofs.Math.Seq.{take-add}
 use Rattle.std.proofs.lemmas.List.{length-append, length-drop, length-take-le, drop-drop, drop-take, drop_at, take-append-le, drop-append-le}
 use Rattle.std.proofs.lemmas.List.Elements.{All-head, All-tail, All-append}
 use Rattle.std.proofs.lemmas.List.Concat.{flat_map-append}
-use Rattle.up_frame.proofs.Fields.{found_is}
 use Rattle.up_frame.proofs.GoingOn.{grows, from_place}
-use Rattle.up_frame.proofs.MoreBytes.{grown, is_broken, stays_broken}
-use Rattle.up_frame.proofs.Packets.{packet_again}
-use Rattle.up_frame.proofs.FedBytes.{nothing_unfinished, broken_rest, rest_of_more}
 use Rattle.up_frame.proofs.SetAttributes.{not_refused}
-use Rattle.up_frame.proofs.Shorter.{packet_shrinks}
-use Rattle.up_frame.proofs.Steady.{Stays, packet_steady}
-use Rattle.up_frame.proofs.Streams.{none_is}
-use Rattle.up_frame.specs.Fronts.{packet_at}
 use Rattle.up_frame.specs.Judging.{AreFramesBefore, IsJudged, IsRest}
 use Rattle.up_frame.specs.Readers.{Keeps, frames_held, behind_frames, Waits, StandsFor, Awaits, IsNext}
-use Rattle.up_frame.specs.Spelling.{frame_of, frames_of}
-use Rattle.up_frame.specs.Streams.{Stream, whole_frames, rest_of_frames, rest_place, broken_at}
 use Rattle.up_frame.specs.declared.frame_reader.FrameReader.{FrameReader}
 use Rattle.up_frame.specs.declared.judged.Judged.{Judged}
-use Rattle.up_frame.specs.declared.layout.NotWhole.{NotWhole}
-use Rattle.up_frame.specs.declared.layout.NotWhole.TheVariants.{Broken, Unfinished}
+use Rattle.up_model.proofs.FrameFields.{found_is}
+use Rattle.up_model.proofs.FrameMoreBytes.{stays_broken}
+use Rattle.up_model.proofs.FramePackets.{packet_again}
+use Rattle.up_model.proofs.FrameRests.{broken_rest, broken_whole, rest_of_more, whole_of_more}
+use Rattle.up_model.proofs.FrameShorter.{packet_shrinks}
+use Rattle.up_model.proofs.FrameStreams.{nothing_at_end}
+use Rattle.up_model.specs.FrameFronts.{packet_at}
+use Rattle.up_model.specs.FrameSpelling.{frame_of, frames_of}
+use Rattle.up_model.specs.FrameStreams.{whole_frames, rest_of_frames, broken_at}
 use Rattle.up_model.specs.Packet.{Flow, IsLegal}
+use Rattle.up_model.specs.declared.frame_layout.NotWhole.{NotWhole}
+use Rattle.up_model.specs.declared.frame_layout.NotWhole.TheVariants.{Broken, Unfinished}
 use Rattle.up_model.specs.declared.plain_packet.PlainPacket.{PlainPacket}
 
 -- what is behind a place, counted from an earlier one
@@ -64,9 +63,6 @@ slice_last held first last given start ordered within parts =
     ∙ ap (drop (length first)) parts
     ∙ drop_at first last (length first) refl
 
-whole_of_more : (bytes more : List ℕ) → whole_frames (bytes ++ more) ≡ whole_frames bytes ++ whole_frames (rest_of_frames bytes ++ more)
-whole_of_more bytes more = ap (λ (s : Stream). s.flow) (grown (length bytes) bytes more (omega arith))
-
 -- where no frame is broken
 pub keeps_open : (reader : FrameReader) (bytes : List ℕ) (given : Flow) → reader.broken ≡ None → StandsFor reader bytes given
     → Keeps None reader.judged (behind_frames reader) bytes
@@ -91,16 +87,6 @@ same_frames old new held first start =
     ap (λ (s : ℕ). slice_range new.held.items new.given s) start
     ∙ ap (λ (p : ℕ). slice_range new.held.items p old.start) first
     ∙ ap (λ (h : List ℕ). slice_range h old.given old.start) held
-
--- behind a broken frame no more frames are whole
-broken_whole : (bytes more : List ℕ) (place : ℕ) → broken_at bytes ≡ Some place → whole_frames (bytes ++ more) ≡ whole_frames bytes
-broken_whole bytes more place e =
-    let rest = rest_of_frames bytes in
-    let broken = is_broken (rest_place bytes) place (packet_at rest) e in
-    let later : packet_at (rest ++ more) ≡ Err Broken = subst (λ front. Stays more front (packet_at (rest ++ more))) broken.0 (packet_steady rest more) in
-    whole_of_more bytes more
-    ∙ ap (λ (f : Flow). whole_frames bytes ++ f) (ap (λ (s : Stream). s.flow) (none_is (rest ++ more) Broken later))
-    ∙ append-nil (whole_frames bytes)
 
 -- a piece behind a broken frame is counted alone
 pub piece_counted : (old new : FrameReader) (piece bytes : List ℕ) (given : Flow) (offset : ℕ) → old.broken ≡ Some offset
@@ -272,7 +258,7 @@ judged_broken old new bytes given size offset judged broken held first start fed
 waiting_read : (flow : Flow) (bytes : List ℕ) (packet : PlainPacket) (rest : List ℕ) → All IsLegal flow → bytes ≡ frames_of flow
     → packet_at bytes ≡ Ok (packet, rest) → (more : Flow) × (flow ≡ packet ∷ more) × (rest ≡ frames_of more) × (All IsLegal more)
 waiting_read [] bytes packet rest legal frames read =
-    absurd (not_refused (packet_at bytes) (packet, rest) Unfinished read (ap packet_at frames ∙ nothing_unfinished))
+    absurd (not_refused (packet_at bytes) (packet, rest) Unfinished read (ap packet_at frames ∙ nothing_at_end))
 waiting_read (first ∷ flow) bytes packet rest legal frames read =
     let again = packet_again first (frames_of flow) (All-head IsLegal first flow legal) in
     let same = found_is (first, frames_of flow) (packet, rest) (sym again ∙ ap packet_at (sym frames) ∙ read) in (

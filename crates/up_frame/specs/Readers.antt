@@ -2,17 +2,17 @@
 use Rattle.std.specs.Prelude.{◌≡◌, ℕ, ◌-◌, ◌≤◌, List, [], ◌∷◌, ◌++◌, length, drop, slice_range, All, Option, Some, None, Result, Ok, Err}
 use Rattle.up_base.specs.Lists.{IsPrefix}
 use Rattle.up_base.specs.declared.refusal.NoMemory.{NoMemory}
-use Rattle.up_frame.specs.Fronts.{packet_at}
 use Rattle.up_frame.specs.Judging.{IsJudged}
-use Rattle.up_frame.specs.Spelling.{frames_of}
-use Rattle.up_frame.specs.Streams.{whole_frames, rest_of_frames, broken_at}
 use Rattle.up_frame.specs.declared.frame_reader.FrameReader.{FrameReader}
 use Rattle.up_frame.specs.declared.judged.Judged.{Judged}
-use Rattle.up_frame.specs.declared.layout.NotWhole.TheVariants.{Unfinished}
 use Rattle.up_frame.specs.declared.refusals.BadFrame.{BadFrame}
 use Rattle.up_frame.specs.declared.refusals.FeedRefused.{FeedRefused}
 use Rattle.up_frame.specs.declared.refusals.FeedRefused.TheVariants as refusals
+use Rattle.up_model.specs.FrameFronts.{packet_at}
+use Rattle.up_model.specs.FrameSpelling.{frames_of}
+use Rattle.up_model.specs.FrameStreams.{whole_frames, rest_of_frames, broken_at}
 use Rattle.up_model.specs.Packet.{Flow, IsLegal}
+use Rattle.up_model.specs.declared.frame_layout.NotWhole.TheVariants.{Unfinished}
 use Rattle.up_model.specs.declared.plain_packet.PlainPacket.{PlainPacket}
 
 -- nothing is broken, and the unfinished rest is held and judged so far; or a frame is broken at the place,

@@ -3,11 +3,11 @@ use Rattle.std.specs.Prelude.{◌≡◌, ℕ, ◌≤◌, List, [], ◌++◌, len
 use Rattle.std.specs.Borrow.{Bor}
 use Rattle.std.specs.FinMap.{from_sorted}
 use Rattle.up_base.specs.Number.{AreBytes}
-use Rattle.up_frame.specs.Fronts.{Front, attributes_at}
-use Rattle.up_frame.specs.Spelling.{frame_of}
 use Rattle.up_frame.specs.declared.frame_parts.FrameParts.{FrameParts}
-use Rattle.up_frame.specs.declared.layout.NotWhole.{NotWhole}
+use Rattle.up_model.specs.FrameFronts.{Front, attributes_at}
+use Rattle.up_model.specs.FrameSpelling.{frame_of}
 use Rattle.up_model.specs.Packet.{IsLegal}
+use Rattle.up_model.specs.declared.frame_layout.NotWhole.{NotWhole}
 use Rattle.up_model.specs.declared.limits.TheConstants.{MAX_ATTRS, MAX_PACKET}
 use Rattle.up_model.specs.declared.plain_packet.PlainPacket.{PlainPacket}
 use Rattle.up_model.specs.declared.value.Value.{Value}

@@ -1,9 +1,9 @@
-use crate::NotWhole;
 use crate::tests::assert_front;
 use std::alloc::Global;
 use std::process::Abort;
 use std::test::Fail;
 use up_base::Bytes;
+use up_model::NotWhole;
 
 /// Fronts of frames whose last byte ends a broken field of the head.
 pub(crate) const BROKEN_HEADS: [&[u8]; 8] = [

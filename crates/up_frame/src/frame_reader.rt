@@ -4,12 +4,12 @@ ghost use Rattle.up_frame.specs.Judging.{judged_place};
 
 use crate::judged::Judged;
 use crate::judging::rest_start;
-use crate::layout::NotWhole;
 use crate::making::packet_of;
 use crate::reading::frame_parts;
 use crate::refusals::{BadFrame, FeedRefused};
 use std::alloc::Global;
 use up_base::NoMemory;
+use up_model::NotWhole;
 use up_shape::LocalPacket;
 
 /// Reads packets from frames that come in any pieces. A field is judged once all its bytes are there, and an attribute
@@ -43,7 +43,7 @@ impl FrameReader {
       bytes_fed,
       plain_answer,
     };
-    ghost use Rattle.up_frame.specs.Streams.{broken_at, cut_at};
+    ghost use Rattle.up_model.specs.FrameStreams.{broken_at, cut_at};
     ghost use Rattle.up_model.specs.Packet.{Flow, IsLegal};
     ghost use Rattle.up_shape.specs.Stores.{Stays};
 

@@ -4,12 +4,12 @@ ghost use Rattle.up_shape.specs.VecPackets.{plain_of};
 
 use crate::field_tests::{BROKEN, BROKEN_HEADS, behind_head};
 use crate::tests::{EACH_TYPE, LONGEST_NAME, fresh, set_opaque};
-use crate::{BadFrame, FeedRefused, FrameReader, NotWhole, behind_frame, write_frame};
+use crate::{BadFrame, FeedRefused, FrameReader, behind_frame, write_frame};
 use std::alloc::Global;
 use std::process::Abort;
 use std::test::Fail;
 use up_base::{AttrName, Bytes};
-use up_model::ValueView;
+use up_model::{NotWhole, ValueView};
 use up_shape::{LocalPacket, VecPacket, VecStore};
 
 /// Feeds a piece to a reader that was fed little so far.

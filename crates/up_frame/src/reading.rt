@@ -3,7 +3,8 @@ ghost use Rattle.std.specs.Prelude.{◌≡◌, ◌==◌, ◌≤◌, nat_le, true
 ghost use Rattle.std.specs.Str.{is_utf8};
 ghost use Rattle.up_base.specs.Name.{is_name, is_within};
 ghost use Rattle.up_base.specs.declared.name_text.TheConstants.{NAME_SIZE};
-ghost use Rattle.up_frame.specs.Fronts.{
+ghost use Rattle.up_frame.specs.Reading.{BeginsWithFrame, Ends, Finds, Parted};
+ghost use Rattle.up_model.specs.FrameFronts.{
   field,
   number_at,
   is_any,
@@ -11,7 +12,6 @@ ghost use Rattle.up_frame.specs.Fronts.{
   type_at,
   is_size_of,
   is_value_of,
-  value_of,
   as_value,
   value_at,
   attribute_at,
@@ -19,15 +19,13 @@ ghost use Rattle.up_frame.specs.Fronts.{
   content_at,
   packet_at,
 };
-ghost use Rattle.up_frame.specs.Reading.{BeginsWithFrame, Ends, Finds, Parted};
-ghost use Rattle.up_frame.specs.Types.{type_with};
 ghost use Rattle.up_model.specs.Value.{lent};
+ghost use Rattle.up_model.specs.ValueTypes.{value_of};
 ghost use Rattle.up_model.specs.declared.limits.TheConstants.{MAX_ATTRS, MAX_PACKET};
 
 use crate::frame_parts::FrameParts;
-use crate::layout::{MARK, NotWhole, VERSION, ValueType};
 use up_base::{AttrName, read_u16, read_u32, read_u64};
-use up_model::{MAX_ATTRS, MAX_PACKET, MAX_VALUE, ValueView};
+use up_model::{MARK, MAX_ATTRS, MAX_PACKET, MAX_VALUE, NotWhole, VERSION, ValueType, ValueView};
 
 /// A field of so many bytes, whatever they are, and what is behind it.
 fn cut(bytes: &[u8], size: usize) -> Result<(&[u8], &[u8]), NotWhole>
@@ -133,27 +131,13 @@ fn value_size_at(bytes: &[u8], type_: ValueType) -> Result<(u32, &[u8]), NotWhol
     Ok((size, &bytes[4..]))
 }
 
-/// The type with this number.
-fn type_numbered(number: u8) -> Option<ValueType>
-    ensures { result ≡ type_with number }
-{
-    match number {
-        1 => Some(ValueType::Void),
-        2 => Some(ValueType::Flag),
-        3 => Some(ValueType::Unsigned),
-        4 => Some(ValueType::Words),
-        5 => Some(ValueType::Opaque),
-        _ => None,
-    }
-}
-
 /// The type whose number comes first.
 fn front_type(bytes: &[u8]) -> Result<(ValueType, &[u8]), NotWhole>
     ensures { Finds (λ x. (x.0, x.1.now)) result (type_at bytes.now) }
 {
     match bytes {
         [] => Err(NotWhole::Unfinished),
-        [number, rest @ ..] => match type_numbered(*number) {
+        [number, rest @ ..] => match ValueType::of_number(*number) {
             Some(type_) => Ok((type_, rest)),
             None => Err(NotWhole::Broken),
         },

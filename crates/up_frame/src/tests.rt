@@ -3,12 +3,14 @@ ghost use Rattle.up_model.specs.Packet.{IsLegal};
 ghost use Rattle.up_model.specs.Value.{lent, IsLegalValue};
 ghost use Rattle.up_shape.specs.VecPackets.{plain_of};
 
-use crate::{MARK, NotWhole, VERSION, behind_frame, write_frame};
+use crate::{behind_frame, write_frame};
 use std::alloc::Global;
 use std::process::Abort;
 use std::test::Fail;
 use up_base::{AttrName, Bytes};
-use up_model::{MAX_ATTRS, MAX_PACKET, MAX_VALUE, ValueView, packets_stay_legal};
+use up_model::{
+    MARK, MAX_ATTRS, MAX_PACKET, MAX_VALUE, NotWhole, VERSION, ValueView, packets_stay_legal,
+};
 use up_shape::{LocalPacket, VecPacket, VecStore};
 
 /// A packet of these bytes, without attributes.

@@ -1,6 +1,6 @@
 use Rattle.std.proofs.Common.{Some, subst}
-use Rattle.up_frame.proofs.FedBytes.{cut_broken}
 use Rattle.up_frame.specs.Readers.{Keeps, behind_frames}
+use Rattle.up_model.proofs.FrameRests.{cut_broken}
 use Rattle.up_frame.proofs.frame_reader.FrameReader.finish.Goals as goal
 
 pub returns-in-Some : goal.returns-in-Some

@@ -1,7 +1,7 @@
 use Rattle.std.proofs.Common.{rules, ◌≡◌, ◌+◌, ◌-◌, length, drop, refl, arith}
 use Rattle.std.proofs.lemmas.List.{length-drop}
 use Rattle.up_frame.proofs.GivenFrames.{found_behind, judged_open, judged_broken}
-use Rattle.up_frame.specs.declared.layout.NotWhole.TheVariants.{Broken, Unfinished}
+use Rattle.up_model.specs.declared.frame_layout.NotWhole.TheVariants.{Broken, Unfinished}
 use Rattle.up_frame.proofs.frame_reader.FrameReader.judge.Goals as goal
 
 pub returns-in-Unfinished-clause-judged : goal.returns-in-Unfinished-clause-judged

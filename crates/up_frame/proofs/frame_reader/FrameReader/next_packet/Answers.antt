@@ -1,10 +1,10 @@
 use Rattle.std.proofs.Common.{rules, ◌≡◌, List, ℕ, slice_range, Ok, refl, sym, ap, ◌∙◌}
 use Rattle.std.proofs.lemmas.Result.{err_from_is_err_and}
-use Rattle.up_frame.proofs.Fields.{found}
 use Rattle.up_frame.proofs.FoundFrames.{legal_found}
 use Rattle.up_frame.proofs.GivenFrames.{one_given, one_waits, all_given, left_within}
-use Rattle.up_frame.specs.Fronts.{packet_at}
 use Rattle.up_frame.specs.Readers.{frames_held}
+use Rattle.up_model.proofs.FrameFields.{found}
+use Rattle.up_model.specs.FrameFronts.{packet_at}
 use Rattle.up_model.specs.declared.plain_packet.PlainPacket.{PlainPacket}
 use Rattle.up_frame.proofs.frame_reader.FrameReader.next_packet.Goals as goal
 

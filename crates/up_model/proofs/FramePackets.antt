@@ -8,14 +8,14 @@ use Rattle.std.proofs.lemmas.Bool.{eqb-true, leb-true, le-leb}
 use Rattle.std.proofs.lemmas.List.Elements.{All-head, All-tail}
 use Rattle.up_base.specs.Name.{is_name}
 use Rattle.up_base.specs.Number.{AreBytes, big_endian_bytes}
-use Rattle.up_frame.proofs.Attributes.{AreBehind, attributes_take, attributes_again}
-use Rattle.up_frame.proofs.Fields.{bind_ok, found, found_is, Takes, takes_both, field_takes, field_again, number_takes, number_again}
-use Rattle.up_frame.specs.Fronts.{Front, ◌>>=◌, field, number_at, is_any, attributes_at, content_at, packet_at}
-use Rattle.up_frame.specs.Spelling.{attribute_bytes, head_bytes, frame_of}
-use Rattle.up_frame.specs.declared.layout.TheConstants.{MARK, VERSION}
 use Rattle.up_model.proofs.AttrLists.{Attr, by_name, attrs_of, len-list}
+use Rattle.up_model.proofs.FrameAttributes.{AreBehind, attributes_take, attributes_again}
+use Rattle.up_model.proofs.FrameFields.{bind_ok, found, found_is, Takes, takes_both, field_takes, field_again, number_takes, number_again}
+use Rattle.up_model.specs.FrameFronts.{Front, ◌>>=◌, field, number_at, is_any, attributes_at, content_at, packet_at}
+use Rattle.up_model.specs.FrameSpelling.{attribute_bytes, head_bytes, frame_of}
 use Rattle.up_model.specs.Packet.{IsLegal}
 use Rattle.up_model.specs.Value.{IsLegalValue}
+use Rattle.up_model.specs.declared.frame_layout.TheConstants.{MARK, VERSION}
 use Rattle.up_model.specs.declared.limits.TheConstants.{MAX_ATTRS, MAX_PACKET}
 use Rattle.up_model.specs.declared.plain_packet.PlainPacket.{PlainPacket}
 

@@ -3,14 +3,15 @@ use Rattle.std.proofs.Common.{ℕ, zero, suc, Bool, eqb, leb, List, [], ◌∷�
 use Rattle.up_base.specs.Name.{is_within}
 use Rattle.up_base.specs.Number.{big_endian}
 use Rattle.up_base.specs.declared.name_text.TheConstants.{NAME_SIZE}
-use Rattle.up_frame.proofs.Fields.{found}
-use Rattle.up_frame.specs.Fronts.{Front, ◌>>=◌, field, number_at, is_name_behind, is_size_of, is_value_of, value_of, is_any, type_at, value_at, attribute_at, attributes_at, content_at, packet_at}
-use Rattle.up_frame.specs.declared.layout.TheConstants.{MARK, VERSION}
-use Rattle.up_frame.specs.declared.layout.ValueType.{ValueType}
 use Rattle.up_model.proofs.AttrLists.{Attr, attrs_of}
+use Rattle.up_model.proofs.FrameFields.{found}
+use Rattle.up_model.specs.FrameFronts.{Front, ◌>>=◌, field, number_at, is_name_behind, is_size_of, is_value_of, is_any, type_at, value_at, attribute_at, attributes_at, content_at, packet_at}
+use Rattle.up_model.specs.ValueTypes.{value_of}
+use Rattle.up_model.specs.declared.frame_layout.TheConstants.{MARK, VERSION}
 use Rattle.up_model.specs.declared.limits.TheConstants.{MAX_ATTRS, MAX_PACKET}
 use Rattle.up_model.specs.declared.plain_packet.PlainPacket.{PlainPacket}
 use Rattle.up_model.specs.declared.value.Value.{Value}
+use Rattle.up_model.specs.declared.value_type.ValueType.{ValueType}
 
 abbrev packet_of : List Attr → List ℕ → PlainPacket
 packet_of attrs bytes = record { attrs = attrs_of attrs; bytes = bytes }

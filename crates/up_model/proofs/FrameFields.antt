@@ -7,9 +7,9 @@ use Rattle.std.proofs.lemmas.List.{take_at, drop_at, take-append-drop, length-ap
 use Rattle.std.proofs.lemmas.List.Elements.{All-head, All-tail, All-take, All-drop}
 use Rattle.up_base.proofs.NumberBytes.{bytes_of_number, number_of_bytes}
 use Rattle.up_base.specs.Number.{AreBytes, big_endian, big_endian_bytes}
-use Rattle.up_frame.specs.Fronts.{Front, ◌>>=◌, field, number_at}
-use Rattle.up_frame.specs.declared.layout.NotWhole.{NotWhole}
-use Rattle.up_frame.specs.declared.layout.NotWhole.TheVariants.{Broken, Unfinished}
+use Rattle.up_model.specs.FrameFronts.{Front, ◌>>=◌, field, number_at}
+use Rattle.up_model.specs.declared.frame_layout.NotWhole.{NotWhole}
+use Rattle.up_model.specs.declared.frame_layout.NotWhole.TheVariants.{Broken, Unfinished}
 
 -- what stands in a field that is whole goes on to the next
 pub bind_ok : {A B : Type 0} (front : Result A NotWhole) (next : A → Result B NotWhole) (y : B) → (front >>= next) ≡ Ok y

@@ -9,15 +9,15 @@ use Rattle.std.proofs.lemmas.List.Elements.{All-nil, All-cons, All-head, All-tai
 use Rattle.up_base.specs.Name.{is_name, is_within}
 use Rattle.up_base.specs.Number.{AreBytes, big_endian_bytes}
 use Rattle.up_base.specs.declared.name_text.TheConstants.{NAME_SIZE}
-use Rattle.up_frame.proofs.Fields.{bind_ok, found, found_is, Takes, takes_both, field_takes, field_again, number_takes, number_again}
-use Rattle.up_frame.proofs.Values.{type_takes, type_again, value_takes, value_again}
-use Rattle.up_frame.specs.Fronts.{Front, ◌>>=◌, field, number_at, is_name_behind, type_at, value_at, attribute_at, attributes_at}
-use Rattle.up_frame.specs.Spelling.{named, typed, sized, value_bytes, attribute_bytes}
-use Rattle.up_frame.specs.Types.{number_of, type_of}
-use Rattle.up_frame.specs.declared.layout.ValueType.{ValueType}
 use Rattle.up_model.proofs.AttrLists.{Attr, by_name}
+use Rattle.up_model.proofs.FrameFields.{bind_ok, found, found_is, Takes, takes_both, field_takes, field_again, number_takes, number_again}
+use Rattle.up_model.proofs.FrameValues.{type_takes, type_again, value_takes, value_again}
+use Rattle.up_model.specs.FrameFronts.{Front, ◌>>=◌, field, number_at, is_name_behind, type_at, value_at, attribute_at, attributes_at}
+use Rattle.up_model.specs.FrameSpelling.{named, typed, sized, attribute_bytes}
 use Rattle.up_model.specs.Value.{IsLegalValue}
+use Rattle.up_model.specs.ValueTypes.{value_bytes, number_of, type_of}
 use Rattle.up_model.specs.declared.value.Value.{Value}
+use Rattle.up_model.specs.declared.value_type.ValueType.{ValueType}
 
 -- what an attribute behind a name is
 pub record IsBehind (before : List ℕ) (attr : Attr) : Type 0 where

@@ -3,19 +3,19 @@ use Rattle.std.proofs.Common.{◌≡◌, ℕ, zero, suc, ◌+◌, ◌<◌, ◌�
 use Rattle.std.proofs.lemmas.List.{length-append, length-drop, take_at}
 use Rattle.std.proofs.lemmas.List.Elements.{All-nil, All-cons, All-head, All-tail}
 use Rattle.up_base.specs.Number.{AreBytes}
-use Rattle.up_frame.proofs.Fields.{found, found_is}
-use Rattle.up_frame.proofs.Packets.{packet_takes, packet_again}
-use Rattle.up_frame.proofs.Shorter.{packet_shrinks}
-use Rattle.up_frame.specs.Fronts.{Front, packet_at}
-use Rattle.up_frame.specs.Spelling.{frame_of, frames_of}
-use Rattle.up_frame.specs.Streams.{IsFramed, HasNoFrame, Stream, behind, stream_by, stream_within, stream_of, whole_frames, rest_of_frames, broken_where, broken_at, place_of_some, cut_at}
-use Rattle.up_frame.specs.declared.layout.NotWhole.{NotWhole}
-use Rattle.up_frame.specs.declared.layout.NotWhole.TheVariants.{Unfinished}
+use Rattle.up_model.proofs.FrameFields.{found, found_is}
+use Rattle.up_model.proofs.FramePackets.{packet_takes, packet_again}
+use Rattle.up_model.proofs.FrameShorter.{packet_shrinks}
+use Rattle.up_model.specs.FrameFronts.{Front, packet_at}
+use Rattle.up_model.specs.FrameSpelling.{frame_of, frames_of}
+use Rattle.up_model.specs.FrameStreams.{IsFramed, HasNoFrame, Stream, behind, stream_by, stream_within, stream_of, whole_frames, rest_of_frames, broken_where, broken_at, place_of_some, cut_at}
 use Rattle.up_model.specs.Packet.{Flow, IsLegal}
+use Rattle.up_model.specs.declared.frame_layout.NotWhole.{NotWhole}
+use Rattle.up_model.specs.declared.frame_layout.NotWhole.TheVariants.{Unfinished}
 use Rattle.up_model.specs.declared.plain_packet.PlainPacket.{PlainPacket}
 
 -- no packet is found at the front of no bytes
-nothing_at_end : packet_at [] ≡ Err Unfinished
+pub nothing_at_end : packet_at [] ≡ Err Unfinished
 unfolding packet_at
 nothing_at_end = refl
 

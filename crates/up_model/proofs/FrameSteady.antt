@@ -2,12 +2,12 @@
 use Rattle.std.proofs.Common.{◌≡◌, ℕ, ◌≤◌, Bool, true, false, cond, ltb, List, [], ◌∷◌, ◌++◌, length, take, drop, Option, Some, None, Ok, Err, refl, sym, ap, subst, arith}
 use Rattle.std.proofs.lemmas.Bool.{ltb-false, le-ltb}
 use Rattle.std.proofs.lemmas.List.{length-append, take-append-le, drop-append-le}
-use Rattle.up_frame.proofs.AllFields.{of_number, of_attribute, of_packet}
-use Rattle.up_frame.proofs.Fields.{found}
-use Rattle.up_frame.specs.Fronts.{Front, ◌>>=◌, field, number_at, type_by, type_at, attribute_at, packet_at}
-use Rattle.up_frame.specs.Types.{type_with}
-use Rattle.up_frame.specs.declared.layout.NotWhole.TheVariants.{Broken, Unfinished}
-use Rattle.up_frame.specs.declared.layout.ValueType.{ValueType}
+use Rattle.up_model.proofs.FrameAllFields.{of_number, of_attribute, of_packet}
+use Rattle.up_model.proofs.FrameFields.{found}
+use Rattle.up_model.specs.FrameFronts.{Front, ◌>>=◌, field, number_at, type_by, type_at, attribute_at, packet_at}
+use Rattle.up_model.specs.ValueTypes.{type_with}
+use Rattle.up_model.specs.declared.frame_layout.NotWhole.TheVariants.{Broken, Unfinished}
+use Rattle.up_model.specs.declared.value_type.ValueType.{ValueType}
 
 -- what is found later, with these bytes behind
 abbrev pub Stays : {A : Type 0} → List ℕ → Front A → Front A → Type 0

@@ -1,9 +1,9 @@
-//! Laws of frames and of the bytes that are made of them.
+// Laws of frames and of the bytes that are made of them.
 ghost use Rattle.std.specs.Prelude.{◌≡◌, ◌∷◌, ◌++◌, List, ℕ, [], None, Some, Ok, All};
 ghost use Rattle.up_base.specs.Number.{AreBytes};
-ghost use Rattle.up_frame.specs.Fronts.{packet_at};
-ghost use Rattle.up_frame.specs.Spelling.{frame_of, frames_of};
-ghost use Rattle.up_frame.specs.Streams.{
+ghost use Rattle.up_model.specs.FrameFronts.{packet_at};
+ghost use Rattle.up_model.specs.FrameSpelling.{frame_of, frames_of};
+ghost use Rattle.up_model.specs.FrameStreams.{
   IsFramed,
   HasNoFrame,
   broken_at,

@@ -5,16 +5,16 @@ use Rattle.std.proofs.lemmas.List.{nil_from_length}
 use Rattle.std.proofs.lemmas.List.Elements.{All-tail}
 use Rattle.up_base.proofs.NumberBytes.{bytes_of_number, number_of_bytes}
 use Rattle.up_base.specs.Number.{AreBytes, big_endian, big_endian_bytes}
-use Rattle.up_frame.proofs.Fields.{bind_ok, found, found_is, Takes, takes_both, field_takes, field_again, number_takes, number_again, number_below}
-use Rattle.up_frame.specs.Fronts.{Front, ◌>>=◌, field, number_at, type_by, type_at, is_size_of, is_value_of, value_of, value_at}
-use Rattle.up_frame.specs.Spelling.{value_bytes, sized}
-use Rattle.up_frame.specs.Types.{number_of, type_with, type_of}
-use Rattle.up_frame.specs.declared.layout.ValueType.{ValueType}
-use Rattle.up_frame.specs.declared.layout.ValueType.TheVariants as types
+use Rattle.up_model.proofs.FrameFields.{bind_ok, found, found_is, Takes, takes_both, field_takes, field_again, number_takes, number_again, number_below}
+use Rattle.up_model.specs.FrameFronts.{Front, ◌>>=◌, field, number_at, type_by, type_at, is_size_of, is_value_of, value_at}
+use Rattle.up_model.specs.FrameSpelling.{sized}
 use Rattle.up_model.specs.Value.{IsLegalValue}
+use Rattle.up_model.specs.ValueTypes.{value_of, value_bytes, number_of, type_with, type_of}
 use Rattle.up_model.specs.declared.limits.TheConstants.{MAX_VALUE}
 use Rattle.up_model.specs.declared.value.Value.{Value}
 use Rattle.up_model.specs.declared.value.Value.TheVariants.{Void, Flag, Unsigned, Words, Opaque}
+use Rattle.up_model.specs.declared.value_type.ValueType.{ValueType}
+use Rattle.up_model.specs.declared.value_type.ValueType.TheVariants as types
 
 -- a choice that gave a type
 chosen : (test : Bool) (first : ValueType) (others : Option ValueType) (type_ : ValueType) → cond test (Some first) others ≡ Some type_

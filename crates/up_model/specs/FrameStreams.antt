@@ -1,10 +1,10 @@
 -- Bytes as frames: the whole ones at the front, where the rest begins, and what is wrong with it.
 use Rattle.std.specs.Prelude.{◌≡◌, ℕ, zero, suc, ◌-◌, List, [], ◌∷◌, ◌++◌, length, Option, Some, None, Ok, Err}
 use Rattle.up_base.specs.Lists.{IsPrefix}
-use Rattle.up_frame.specs.Fronts.{Front, packet_at}
-use Rattle.up_frame.specs.Spelling.{frame_of}
-use Rattle.up_frame.specs.declared.layout.NotWhole.TheVariants.{Broken, Unfinished}
+use Rattle.up_model.specs.FrameFronts.{Front, packet_at}
+use Rattle.up_model.specs.FrameSpelling.{frame_of}
 use Rattle.up_model.specs.Packet.{Flow, IsLegal}
+use Rattle.up_model.specs.declared.frame_layout.NotWhole.TheVariants.{Broken, Unfinished}
 use Rattle.up_model.specs.declared.plain_packet.PlainPacket.{PlainPacket}
 
 -- the bytes are the frames of legal packets, and the rest

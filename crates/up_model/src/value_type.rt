@@ -1,11 +1,10 @@
 ghost use Rattle.std.specs.Prelude.{◌≡◌};
-ghost use Rattle.up_dict.specs.Reading.{type_of_byte};
-ghost use Rattle.up_dict.specs.Spelling.{type_byte, type_of};
 ghost use Rattle.up_model.specs.Value.{lent};
+ghost use Rattle.up_model.specs.ValueTypes.{number_of, type_of, type_with};
 
-use up_model::ValueView;
+use crate::ValueView;
 
-/// The type of a value, as one byte of the run says it.
+/// The type of a value. Each has a number, by which the type is told where a value is spelled in bytes.
 #[derive(Clone, Copy, Debug, PartialEq, Eq)]
 pub enum ValueType {
     Void,
@@ -16,7 +15,8 @@ pub enum ValueType {
 }
 
 impl ValueType {
-    pub(crate) fn of(value: ValueView<'_>) -> ValueType
+    /// The type of the value.
+    pub fn of(value: ValueView<'_>) -> ValueType
         ensures { result ≡ type_of (lent value.entry) }
     {
         match value {
@@ -28,9 +28,9 @@ impl ValueType {
         }
     }
 
-    /// The byte that stands for the type.
-    pub(crate) fn byte(self) -> u8
-        ensures { result ≡ type_byte self }
+    /// The number of the type, 1 to 5.
+    pub fn number(self) -> u8
+        ensures { result ≡ number_of self }
     {
         match self {
             ValueType::Void => 1,
@@ -41,16 +41,17 @@ impl ValueType {
         }
     }
 
-    /// The type that a byte stands for.
-    pub(crate) fn of_byte(byte: u8) -> ValueType
-        ensures { result ≡ type_of_byte byte }
+    /// The type with this number.
+    pub fn of_number(number: u8) -> Option<ValueType>
+        ensures { result ≡ type_with number }
     {
-        match byte {
-            1 => ValueType::Void,
-            2 => ValueType::Flag,
-            3 => ValueType::Unsigned,
-            4 => ValueType::Words,
-            _ => ValueType::Opaque,
+        match number {
+            1 => Some(ValueType::Void),
+            2 => Some(ValueType::Flag),
+            3 => Some(ValueType::Unsigned),
+            4 => Some(ValueType::Words),
+            5 => Some(ValueType::Opaque),
+            _ => None,
         }
     }
 }

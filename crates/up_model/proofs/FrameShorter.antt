@@ -3,12 +3,12 @@ use Rattle.std.proofs.Common.{◌≡◌, ℕ, ◌+◌, ◌<◌, ◌≤◌, Bool,
 use Rattle.std.proofs.lemmas.Bool.{ltb-false}
 use Rattle.std.proofs.lemmas.List.{length-drop, length-take-le}
 use Rattle.up_base.specs.Number.{big_endian}
-use Rattle.up_frame.proofs.AllFields.{behind_mark, of_attribute, of_behind_mark}
-use Rattle.up_frame.proofs.Fields.{bind_ok, found, found_is, field_found}
-use Rattle.up_frame.proofs.Values.{by_found}
-use Rattle.up_frame.specs.Fronts.{Front, ◌>>=◌, field, number_at, type_at, attribute_at, packet_at}
-use Rattle.up_frame.specs.Types.{type_with}
-use Rattle.up_frame.specs.declared.layout.TheConstants.{MARK}
+use Rattle.up_model.proofs.FrameAllFields.{behind_mark, of_attribute, of_behind_mark}
+use Rattle.up_model.proofs.FrameFields.{bind_ok, found, found_is, field_found}
+use Rattle.up_model.proofs.FrameValues.{by_found}
+use Rattle.up_model.specs.FrameFronts.{Front, ◌>>=◌, field, number_at, type_at, attribute_at, packet_at}
+use Rattle.up_model.specs.ValueTypes.{type_with}
+use Rattle.up_model.specs.declared.frame_layout.TheConstants.{MARK}
 use Rattle.up_model.specs.declared.plain_packet.PlainPacket.{PlainPacket}
 
 -- what is found leaves no more bytes than there were

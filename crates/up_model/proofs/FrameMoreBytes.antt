@@ -1,13 +1,13 @@
 -- The whole frames of bytes that grow, and where they are broken.
 use Rattle.std.proofs.Common.{◌≡◌, ℕ, zero, suc, ◌-◌, ◌<◌, ◌≤◌, List, ◌++◌, length, Some, Ok, Err, refl, ap, subst, ◌∙◌, arith}
 use Rattle.std.proofs.lemmas.List.{length-append}
-use Rattle.up_frame.proofs.Shorter.{packet_shrinks}
-use Rattle.up_frame.proofs.Steady.{Stays, packet_steady}
-use Rattle.up_frame.proofs.Streams.{first_is, none_is}
-use Rattle.up_frame.specs.Fronts.{Front, packet_at}
-use Rattle.up_frame.specs.Streams.{Stream, behind, stream_by, stream_within, stream_of, rest_of_frames, rest_place, broken_where, broken_at}
-use Rattle.up_frame.specs.declared.layout.NotWhole.TheVariants.{Broken, Unfinished}
+use Rattle.up_model.proofs.FrameShorter.{packet_shrinks}
+use Rattle.up_model.proofs.FrameSteady.{Stays, packet_steady}
+use Rattle.up_model.proofs.FrameStreams.{first_is, none_is}
+use Rattle.up_model.specs.FrameFronts.{Front, packet_at}
+use Rattle.up_model.specs.FrameStreams.{Stream, behind, stream_by, stream_within, stream_of, rest_of_frames, rest_place, broken_where, broken_at}
 use Rattle.up_model.specs.Packet.{Flow}
+use Rattle.up_model.specs.declared.frame_layout.NotWhole.TheVariants.{Broken, Unfinished}
 use Rattle.up_model.specs.declared.plain_packet.PlainPacket.{PlainPacket}
 
 -- the packets before those of a stream

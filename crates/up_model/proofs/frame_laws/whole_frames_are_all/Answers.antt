@@ -1,7 +1,7 @@
 use Rattle.std.proofs.Common.{length, ap, sym, arith}
-use Rattle.up_frame.proofs.Streams.{all_within, only_one}
-use Rattle.up_frame.specs.Streams.{Stream}
-use Rattle.up_frame.proofs.laws.whole_frames_are_all.Goals as goal
+use Rattle.up_model.proofs.FrameStreams.{all_within, only_one}
+use Rattle.up_model.specs.FrameStreams.{Stream}
+use Rattle.up_model.proofs.frame_laws.whole_frames_are_all.Goals as goal
 
 pub returns-clause-framed : goal.returns-clause-framed
 returns-clause-framed c bytes below = (all_within (length bytes) bytes (omega arith) below).framed

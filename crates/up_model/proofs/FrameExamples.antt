@@ -3,12 +3,12 @@ use Rattle.std.proofs.Common.{◌≡◌, ℕ, List, [], ◌∷◌, ◌++◌, len
 use Rattle.std.specs.FinMap.{entries, entries-from_sorted}
 use Rattle.std.specs.List.{flat_map}
 use Rattle.std.specs.Prelude.{codes}
-use Rattle.up_frame.specs.Fronts.{packet_at, content_at, attributes_at, attribute_at, value_at}
-use Rattle.up_frame.specs.Spelling.{frame_of, head_bytes, attribute_bytes}
-use Rattle.up_frame.specs.Streams.{rest_of_frames, broken_at, cut_at}
-use Rattle.up_frame.specs.declared.layout.NotWhole.TheVariants.{Broken, Unfinished}
 use Rattle.up_model.proofs.AttrLists.{Attr, HasOrder, by_name, attrs_of, len-list, no_attrs}
+use Rattle.up_model.specs.FrameFronts.{packet_at, content_at, attributes_at, attribute_at, value_at}
+use Rattle.up_model.specs.FrameSpelling.{frame_of, head_bytes, attribute_bytes}
+use Rattle.up_model.specs.FrameStreams.{rest_of_frames, broken_at, cut_at}
 use Rattle.up_model.specs.Packet.{plain}
+use Rattle.up_model.specs.declared.frame_layout.NotWhole.TheVariants.{Broken, Unfinished}
 use Rattle.up_model.specs.declared.plain_packet.PlainPacket.{PlainPacket}
 use Rattle.up_model.specs.declared.value.Value.TheVariants.{Void, Unsigned}
 

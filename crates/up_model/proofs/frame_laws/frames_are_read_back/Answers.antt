@@ -1,5 +1,5 @@
-use Rattle.up_frame.proofs.Packets.{packet_takes, packet_again}
-use Rattle.up_frame.proofs.laws.frames_are_read_back.Goals as goal
+use Rattle.up_model.proofs.FramePackets.{packet_takes, packet_again}
+use Rattle.up_model.proofs.frame_laws.frames_are_read_back.Goals as goal
 
 pub returns-clause-again : goal.returns-clause-again
 returns-clause-again c = packet_again

@@ -1,23 +1,13 @@
 -- The one spelling of a packet as a frame (docs/FRAMES.md). All numbers are big endian.
-use Rattle.std.specs.Prelude.{ℕ, true, false, List, [], ◌∷◌, ◌++◌, length}
+use Rattle.std.specs.Prelude.{ℕ, List, ◌∷◌, ◌++◌, length}
 use Rattle.std.specs.List.{flat_map}
 use Rattle.std.specs.FinMap.{entries, len}
 use Rattle.up_base.specs.Number.{big_endian_bytes}
-use Rattle.up_frame.specs.Types.{number_of, type_of}
-use Rattle.up_frame.specs.declared.layout.TheConstants.{MARK, VERSION}
 use Rattle.up_model.specs.Packet.{Flow}
+use Rattle.up_model.specs.ValueTypes.{number_of, type_of, value_bytes}
+use Rattle.up_model.specs.declared.frame_layout.TheConstants.{MARK, VERSION}
 use Rattle.up_model.specs.declared.plain_packet.PlainPacket.{PlainPacket}
 use Rattle.up_model.specs.declared.value.Value.{Value}
-use Rattle.up_model.specs.declared.value.Value.TheVariants.{Void, Flag, Unsigned, Words, Opaque}
-
--- the bytes of the value
-abbrev pub value_bytes : Value → List ℕ
-value_bytes Void = []
-value_bytes (Flag false) = 0 ∷ []
-value_bytes (Flag true) = 1 ∷ []
-value_bytes (Unsigned number) = big_endian_bytes 8 number
-value_bytes (Words text) = text
-value_bytes (Opaque bytes) = bytes
 
 -- in four bytes how many there are, and then the bytes
 abbrev pub sized : List ℕ → List ℕ

@@ -7,16 +7,15 @@ use Rattle.std.specs.Str.{is_utf8}
 use Rattle.up_base.specs.Name.{is_name, is_within}
 use Rattle.up_base.specs.Number.{big_endian}
 use Rattle.up_base.specs.declared.name_text.TheConstants.{NAME_SIZE}
-use Rattle.up_frame.specs.Types.{type_with}
-use Rattle.up_frame.specs.declared.layout.TheConstants.{MARK, VERSION}
-use Rattle.up_frame.specs.declared.layout.NotWhole.{NotWhole}
-use Rattle.up_frame.specs.declared.layout.NotWhole.TheVariants.{Broken, Unfinished}
-use Rattle.up_frame.specs.declared.layout.ValueType.{ValueType}
-use Rattle.up_frame.specs.declared.layout.ValueType.TheVariants as types
+use Rattle.up_model.specs.ValueTypes.{type_with, value_of}
+use Rattle.up_model.specs.declared.frame_layout.NotWhole.{NotWhole}
+use Rattle.up_model.specs.declared.frame_layout.NotWhole.TheVariants.{Broken, Unfinished}
+use Rattle.up_model.specs.declared.frame_layout.TheConstants.{MARK, VERSION}
 use Rattle.up_model.specs.declared.limits.TheConstants.{MAX_ATTRS, MAX_PACKET, MAX_VALUE}
 use Rattle.up_model.specs.declared.plain_packet.PlainPacket.{PlainPacket}
 use Rattle.up_model.specs.declared.value.Value.{Value}
-use Rattle.up_model.specs.declared.value.Value.TheVariants.{Void, Flag, Unsigned, Words, Opaque}
+use Rattle.up_model.specs.declared.value_type.ValueType.{ValueType}
+use Rattle.up_model.specs.declared.value_type.ValueType.TheVariants as types
 
 -- what stands at the front, with the bytes behind it, or why nothing whole does
 abbrev pub Front : Type 0 → Type 0
@@ -69,14 +68,6 @@ is_value_of types.Flag bytes = nat_le (big_endian bytes) 1
 is_value_of types.Unsigned bytes = true
 is_value_of types.Words bytes = is_utf8 bytes
 is_value_of types.Opaque bytes = true
-
--- the value of this type that the bytes are
-abbrev pub value_of : ValueType → List ℕ → Value
-value_of types.Void bytes = Void
-value_of types.Flag bytes = Flag (big_endian bytes == 1)
-value_of types.Unsigned bytes = Unsigned (big_endian bytes)
-value_of types.Words bytes = Words bytes
-value_of types.Opaque bytes = Opaque bytes
 
 -- the bytes that were found, as a value of this type
 abbrev pub as_value : ValueType → Front (List ℕ) → Front Value

@@ -1,8 +1,8 @@
 use Rattle.std.proofs.Common.{ap}
-use Rattle.up_frame.proofs.Streams.{one_by_one, all_back, neither}
-use Rattle.up_frame.specs.Spelling.{frames_of}
-use Rattle.up_frame.specs.Streams.{Stream}
-use Rattle.up_frame.proofs.laws.whole_frames_come_one_by_one.Goals as goal
+use Rattle.up_model.proofs.FrameStreams.{one_by_one, all_back, neither}
+use Rattle.up_model.specs.FrameSpelling.{frames_of}
+use Rattle.up_model.specs.FrameStreams.{Stream}
+use Rattle.up_model.proofs.frame_laws.whole_frames_come_one_by_one.Goals as goal
 
 pub returns-clause-frames : goal.returns-clause-frames
 returns-clause-frames c packet bytes legal = ap (λ (s : Stream). s.flow) (one_by_one packet bytes legal)
