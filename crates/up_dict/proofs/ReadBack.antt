@@ -6,14 +6,15 @@ use Rattle.std.proofs.lemmas.List.Elements.{All-head, All-nil, All-tail}
 use Rattle.up_base.specs.Number.{big_endian, big_endian_bytes}
 use Rattle.up_base.proofs.NumberBytes.{number_of_bytes}
 use Rattle.up_model.specs.Value.{IsLegalValue}
+use Rattle.up_model.specs.ValueTypes.{number_of, type_of, value_bytes, value_of}
 use Rattle.up_model.specs.declared.value.Value.{Value}
 use Rattle.up_model.specs.declared.value.Value.TheVariants.{Void, Flag, Unsigned, Words, Opaque}
 use Rattle.up_dict.specs.Held.{Spells, IsRun}
 use Rattle.up_dict.specs.Places.{HasFirst, IsValueOf}
-use Rattle.up_dict.specs.Reading.{type_of_byte, value_of, first_name, type_place, value_size, first_value, first_size, attrs_within, attrs_in}
-use Rattle.up_dict.specs.Spelling.{Attr, IsLegalAttr, type_of, type_byte, value_bytes, attr_bytes, spelled}
+use Rattle.up_dict.specs.Reading.{type_of_byte, first_name, type_place, value_size, first_value, first_size, attrs_within, attrs_in}
+use Rattle.up_dict.specs.Spelling.{Attr, IsLegalAttr, attr_bytes, spelled}
 
-pub type_reads : (value : Value) → type_of_byte (type_byte (type_of value)) ≡ type_of value
+pub type_reads : (value : Value) → type_of_byte (number_of (type_of value)) ≡ type_of value
 type_reads Void = refl
 type_reads (Flag flag) = refl
 type_reads (Unsigned number) = refl
@@ -76,7 +77,7 @@ module _ (name : List ℕ) (kind : ℕ) (two bytes rest : List ℕ) (pair : leng
 pub record ReadsAs (run : List ℕ) (attr : Attr) : Type 0 where
   pub name_size : slice_index run 0 ≡ length attr.0
   pub name : first_name run ≡ attr.0
-  pub kind : slice_index run (type_place run) ≡ type_byte (type_of attr.1)
+  pub kind : slice_index run (type_place run) ≡ number_of (type_of attr.1)
   pub counted : value_size run ≡ length (value_bytes attr.1)
   pub part : slice_range run (type_place run + 3) (type_place run + 3 + value_size run) ≡ value_bytes attr.1
   pub size : length (attr_bytes attr) ≡ type_place run + 3 + value_size run
@@ -87,7 +88,7 @@ unfolding attr_bytes
 attr_reads attr rest legal =
     let name = attr.0 in
     let bytes = value_bytes attr.1 in
-    let kind = type_byte (type_of attr.1) in
+    let kind = number_of (type_of attr.1) in
     let two = big_endian_bytes 2 (length bytes) in
     let counted : big_endian two ≡ length bytes = number_of_bytes 2 (length bytes) (fits attr.1 legal.1) in
     let size : value_size (attr_bytes attr ++ rest) ≡ length bytes = ap big_endian (two_there name kind two bytes rest refl) ∙ counted in

@@ -1,6 +1,5 @@
 -- Worked examples of refusals, computed.
-use Rattle.std.proofs.Common.{◌≡◌, ℕ, List, [], ◌∷◌, true, false, replicate, Some, None, refl}
-use Rattle.std.specs.Prelude.{codes}
+use Rattle.std.proofs.Common.{◌≡◌, ℕ, List, true, false, replicate, Some, None, refl}
 use Rattle.std.specs.FinMap.{contains_key, len}
 use Rattle.up_model.specs.Attrs.{Attrs}
 use Rattle.up_model.specs.declared.value.Value.TheVariants.{Unsigned, Words, Opaque}

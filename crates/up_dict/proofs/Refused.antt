@@ -4,6 +4,7 @@ use Rattle.std.proofs.lemmas.Bool.Decides.{nat_tests}
 use Rattle.std.specs.FinMap.{contains_key, len}
 use Rattle.up_model.specs.Attrs.{Attrs}
 use Rattle.up_model.specs.Value.{IsLegalValue}
+use Rattle.up_model.specs.ValueTypes.{value_bytes}
 use Rattle.up_model.specs.declared.limits.TheConstants.{MAX_ATTRS, MAX_VALUE}
 use Rattle.up_model.specs.declared.value.Value.{Value}
 use Rattle.up_model.specs.declared.value.Value.TheVariants.{Void, Flag, Unsigned, Words, Opaque}
@@ -12,7 +13,6 @@ use Rattle.up_dict.specs.Held.{IsRun, held_in}
 use Rattle.up_dict.specs.Places.{IsFoundAt, IsMissingAt}
 use Rattle.up_dict.specs.Reading.{attrs_in}
 use Rattle.up_dict.specs.Refusal.{refusal_of, refusal_of_name}
-use Rattle.up_dict.specs.Spelling.{value_bytes}
 use Rattle.up_dict.specs.declared.set_refused.SetRefused.TheVariants.{TooMany}
 
 module _ (held : Attrs) (name : List ℕ) where

@@ -6,11 +6,12 @@ use Rattle.std.specs.List.{HoldsAt}
 use Rattle.std.specs.List.Sorted.{IsPartitionPoint}
 use Rattle.std.specs.declared.cmp.Ordering.TheVariants.{Less, Equal, Greater}
 use Rattle.up_model.specs.Value.{IsLegalValue}
-use Rattle.up_dict.specs.Spelling.{Attr, IsLegalAttr, attr_bytes, spelled, value_bytes}
-use Rattle.up_dict.specs.Reading.{attrs_in, first_name, first_size, value_of}
+use Rattle.up_model.specs.ValueTypes.{value_bytes, value_of}
+use Rattle.up_model.specs.declared.value_type.ValueType.{ValueType}
+use Rattle.up_dict.specs.Spelling.{Attr, IsLegalAttr, attr_bytes, spelled}
+use Rattle.up_dict.specs.Reading.{attrs_in, first_name, first_size}
 use Rattle.up_dict.specs.declared.find.Compared.{Compared}
 use Rattle.up_dict.specs.declared.find.Compared.TheVariants as compared
-use Rattle.up_dict.specs.declared.value_type.ValueType.{ValueType}
 
 -- the bytes are those of the legal value of this type that is read from them
 pub record IsValueOf (kind : ValueType) (bytes : List ℕ) : Type 0 where

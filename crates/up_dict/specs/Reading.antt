@@ -1,28 +1,16 @@
 -- What a run of bytes says of the attributes in it, read from its front.
-use Rattle.std.specs.Prelude.{ℕ, zero, suc, ◌+◌, ◌==◌, List, [], ◌∷◌, length, drop, slice_index, slice_range, if◌then◌else◌}
+use Rattle.std.specs.Prelude.{ℕ, zero, suc, ◌+◌, List, [], ◌∷◌, length, drop, slice_index, slice_range}
+use Rattle.std.specs.Option.{unwrap_or}
 use Rattle.up_base.specs.Number.{big_endian}
+use Rattle.up_model.specs.ValueTypes.{type_with, value_of}
 use Rattle.up_model.specs.declared.value.Value.{Value}
-use Rattle.up_model.specs.declared.value.Value.TheVariants.{Void, Flag, Unsigned, Words, Opaque}
+use Rattle.up_model.specs.declared.value_type.ValueType.{ValueType}
+use Rattle.up_model.specs.declared.value_type.ValueType.TheVariants as types
 use Rattle.up_dict.specs.Spelling.{Attr}
-use Rattle.up_dict.specs.declared.value_type.ValueType.{ValueType}
-use Rattle.up_dict.specs.declared.value_type.ValueType.TheVariants as types
 
--- the type that a byte stands for
+-- the type with the number; a run has no number without a type
 abbrev pub type_of_byte : ℕ → ValueType
-type_of_byte byte =
-    if byte == 1 then types.Void
-    else if byte == 2 then types.Flag
-    else if byte == 3 then types.Unsigned
-    else if byte == 4 then types.Words
-    else types.Opaque
-
--- the value of this type that has these bytes
-abbrev pub value_of : ValueType → List ℕ → Value
-value_of types.Void bytes = Void
-value_of types.Flag bytes = Flag (slice_index bytes 0 == 1)
-value_of types.Unsigned bytes = Unsigned (big_endian bytes)
-value_of types.Words bytes = Words bytes
-value_of types.Opaque bytes = Opaque bytes
+type_of_byte byte = unwrap_or (type_with byte) types.Opaque
 
 -- the name of the first attribute, which follows its length
 abbrev pub first_name : List ℕ → List ℕ

@@ -2,9 +2,9 @@
 use Rattle.std.specs.Prelude.{◌≡◌, ℕ, not, ◌&&◌, nat_lt, nat_le, List, length, Option, Some, None, Result, Err, IfErr, if◌then◌else◌}
 use Rattle.std.specs.FinMap.{contains_key, len}
 use Rattle.up_model.specs.Attrs.{Attrs}
+use Rattle.up_model.specs.ValueTypes.{value_bytes}
 use Rattle.up_model.specs.declared.limits.TheConstants.{MAX_ATTRS, MAX_VALUE}
 use Rattle.up_model.specs.declared.value.Value.{Value}
-use Rattle.up_dict.specs.Spelling.{value_bytes}
 use Rattle.up_dict.specs.declared.set_refused.SetRefused.{SetRefused}
 use Rattle.up_dict.specs.declared.set_refused.SetRefused.TheVariants.{TooLong, TooMany, NoMemory}
 

@@ -2,13 +2,13 @@
 ghost use Rattle.std.specs.Prelude.{◌≡◌, ◌<◌, ◌≤◌, true, drop, length};
 ghost use Rattle.up_base.specs.Name.{is_name};
 ghost use Rattle.up_dict.specs.Places.{HasFirst, IsValueOf};
-ghost use Rattle.up_dict.specs.Reading.{first_name, first_size, first_value, value_of};
+ghost use Rattle.up_dict.specs.Reading.{first_name, first_size, first_value};
 ghost use Rattle.up_model.specs.Value.{lent};
+ghost use Rattle.up_model.specs.ValueTypes.{value_of};
 
-use crate::value_type::ValueType;
 use std::str;
 use up_base::{read_u16, read_u64};
-use up_model::ValueView;
+use up_model::{ValueType, ValueView};
 
 /// The bytes of the run from one on.
 pub(crate) fn rest_from(run: &[u8], byte: usize) -> &[u8]
@@ -58,7 +58,7 @@ pub(crate) fn first_value(run: &[u8]) -> ValueView<'_>
     ensures { lent result ≡ first_value run.now }
 {
     let place = usize::from(run[0]) + 1;
-    let kind = ValueType::of_byte(run[place]);
+    let kind = ValueType::of_number(run[place]).unwrap_or(ValueType::Opaque);
     let size = usize::from(read_u16(run, place + 1));
     value_of(kind, &run[place + 3..place + 3 + size])
 }

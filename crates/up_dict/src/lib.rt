@@ -13,7 +13,6 @@ mod set_refused;
 mod spell;
 #[cfg(test)]
 mod tests;
-mod value_type;
 
 pub use dict::Dict;
 pub use laws::{attributes_read_back, what_has_room_is_taken};

@@ -1,12 +1,12 @@
 // The bytes of an attribute, put at the end of a run.
 ghost use Rattle.std.specs.Prelude.{◌≡◌, ◌<◌, ◌≤◌, ◌++◌, true, length, take, OnOk, OnErr};
 ghost use Rattle.std.specs.Str.{is_utf8};
-ghost use Rattle.up_dict.specs.Spelling.{IsLegalAttr, attr_bytes, head_bytes, value_bytes};
+ghost use Rattle.up_dict.specs.Spelling.{IsLegalAttr, attr_bytes, head_bytes};
 ghost use Rattle.up_model.specs.Value.{lent, IsLegalValue};
+ghost use Rattle.up_model.specs.ValueTypes.{value_bytes};
 
-use crate::value_type::ValueType;
 use up_base::NoMemory;
-use up_model::{MAX_VALUE, ValueView};
+use up_model::{MAX_VALUE, ValueType, ValueView};
 
 /// How many bytes a text has. It is UTF-8, as every text.
 fn text_size(text: &str) -> usize
@@ -38,7 +38,7 @@ fn push_head(run: &mut Vec<u8>, name: &[u8], kind: ValueType, size: u16) -> Resu
 {
     run.push(name.len() as u8)?;
     run.extend_from_slice(name)?;
-    run.push(kind.byte())?;
+    run.push(kind.number())?;
     run.extend_from_slice(&size.to_be_bytes())?;
     Ok(())
 }

@@ -7,10 +7,10 @@ use Rattle.std.proofs.lemmas.List.Concat.{flat_map-append}
 use Rattle.std.proofs.lemmas.List.Elements.{All-nil, All-cons, All-head, All-tail, All-get_or}
 use Rattle.std.proofs.lemmas.Option.{slice_get_within, get_or_from_slice_get}
 use Rattle.up_frame.proofs.Parts.{of_first, of_second}
-use Rattle.up_frame.specs.Spelling.{attribute_bytes}
 use Rattle.up_frame.specs.Writing.{AddsPart}
 use Rattle.up_model.proofs.AttrLists.{Attr}
 use Rattle.up_model.proofs.PlainSteps.{take_next}
+use Rattle.up_model.specs.FrameSpelling.{attribute_bytes}
 use Rattle.up_model.specs.Value.{IsLegalValue}
 
 -- the value at a place is legal, where all are

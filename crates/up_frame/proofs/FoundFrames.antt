@@ -4,13 +4,13 @@ use Rattle.std.specs.Borrow.{Bor}
 use Rattle.std.specs.Prelude.{IfOk}
 use Rattle.std.proofs.lemmas.List.Elements.{All-from_get_or}
 use Rattle.up_base.specs.Number.{AreBytes}
-use Rattle.up_frame.proofs.Fields.{found_is}
-use Rattle.up_frame.proofs.Packets.{packet_takes, packet_again}
-use Rattle.up_frame.specs.Fronts.{packet_at}
 use Rattle.up_frame.specs.Reading.{BeginsWithFrame, Parted, packet_with}
 use Rattle.up_frame.specs.declared.frame_parts.FrameParts.{FrameParts}
-use Rattle.up_frame.specs.declared.layout.NotWhole.{NotWhole}
+use Rattle.up_model.proofs.FrameFields.{found_is}
+use Rattle.up_model.proofs.FramePackets.{packet_takes, packet_again}
+use Rattle.up_model.specs.FrameFronts.{packet_at}
 use Rattle.up_model.specs.Packet.{IsLegal}
+use Rattle.up_model.specs.declared.frame_layout.NotWhole.{NotWhole}
 use Rattle.up_model.specs.declared.plain_packet.PlainPacket.{PlainPacket}
 
 -- each is a byte

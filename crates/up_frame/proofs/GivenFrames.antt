@@ -1,29 +1,27 @@
 -- Frames that wait to be given, and the bytes that hold them.
-use Rattle.std.proofs.Common.{◌≡◌, ℕ, ◌+◌, ◌-◌, ◌≤◌, List, [], ◌∷◌, ◌++◌, length, take, drop, slice_range, All, Some, None, Ok, Err, refl, sym, ap, subst, ◌∙◌, append_assoc, append-nil, arith}
+use Rattle.std.proofs.Common.{◌≡◌, ℕ, zero, suc, ◌+◌, ◌-◌, ◌≤◌, List, [], ◌∷◌, ◌++◌, length, take, drop, slice_range, All, Option, Some, None, Ok, Err, refl, sym, ap, subst, ◌∙◌, append_assoc, append-nil, arith}
 use Rattle.std.proofs.Math.Seq.{take-add}
 use Rattle.std.proofs.lemmas.List.{length-append, length-drop, length-take-le, drop-drop, drop-take, drop_at, take-append-le, drop-append-le}
 use Rattle.std.proofs.lemmas.List.Elements.{All-head, All-tail, All-append}
 use Rattle.std.proofs.lemmas.List.Concat.{flat_map-append}
-use Rattle.up_base.specs.Lists.{IsPrefix}
-use Rattle.up_frame.proofs.Fields.{found_is}
-use Rattle.up_frame.proofs.GoingOn.{grows}
-use Rattle.up_frame.proofs.MoreBytes.{grown, is_broken, stays_broken}
-use Rattle.up_frame.proofs.Packets.{packet_again}
-use Rattle.up_frame.proofs.ScannedBytes.{nothing_unfinished, broken_rest, rest_of_more}
+use Rattle.up_frame.proofs.GoingOn.{grows, from_place}
 use Rattle.up_frame.proofs.SetAttributes.{not_refused}
-use Rattle.up_frame.proofs.Shorter.{packet_shrinks}
-use Rattle.up_frame.proofs.Steady.{Stays, packet_steady}
-use Rattle.up_frame.proofs.Streams.{none_is}
-use Rattle.up_frame.specs.Fronts.{packet_at}
 use Rattle.up_frame.specs.Judging.{AreFramesBefore, IsJudged, IsRest}
-use Rattle.up_frame.specs.Readers.{frames_held, behind_frames, Waits, StandsFor, Awaits}
-use Rattle.up_frame.specs.Scanners.{Keeps}
-use Rattle.up_frame.specs.Spelling.{frame_of, frames_of}
-use Rattle.up_frame.specs.Streams.{Stream, whole_frames, rest_of_frames, rest_place, broken_at}
+use Rattle.up_frame.specs.Readers.{Keeps, frames_held, behind_frames, Waits, StandsFor, Awaits, IsNext}
 use Rattle.up_frame.specs.declared.frame_reader.FrameReader.{FrameReader}
-use Rattle.up_frame.specs.declared.layout.NotWhole.{NotWhole}
-use Rattle.up_frame.specs.declared.layout.NotWhole.TheVariants.{Broken, Unfinished}
+use Rattle.up_frame.specs.declared.judged.Judged.{Judged}
+use Rattle.up_model.proofs.FrameFields.{found_is}
+use Rattle.up_model.proofs.FrameMoreBytes.{stays_broken}
+use Rattle.up_model.proofs.FramePackets.{packet_again}
+use Rattle.up_model.proofs.FrameRests.{broken_rest, broken_whole, rest_of_more, whole_of_more}
+use Rattle.up_model.proofs.FrameShorter.{packet_shrinks}
+use Rattle.up_model.proofs.FrameStreams.{nothing_at_end}
+use Rattle.up_model.specs.FrameFronts.{packet_at}
+use Rattle.up_model.specs.FrameSpelling.{frame_of, frames_of}
+use Rattle.up_model.specs.FrameStreams.{whole_frames, rest_of_frames, broken_at}
 use Rattle.up_model.specs.Packet.{Flow, IsLegal}
+use Rattle.up_model.specs.declared.frame_layout.NotWhole.{NotWhole}
+use Rattle.up_model.specs.declared.frame_layout.NotWhole.TheVariants.{Broken, Unfinished}
 use Rattle.up_model.specs.declared.plain_packet.PlainPacket.{PlainPacket}
 
 -- what is behind a place, counted from an earlier one
@@ -65,9 +63,6 @@ slice_last held first last given start ordered within parts =
     ∙ ap (drop (length first)) parts
     ∙ drop_at first last (length first) refl
 
-whole_of_more : (bytes more : List ℕ) → whole_frames (bytes ++ more) ≡ whole_frames bytes ++ whole_frames (rest_of_frames bytes ++ more)
-whole_of_more bytes more = ap (λ (s : Stream). s.flow) (grown (length bytes) bytes more (omega arith))
-
 -- where no frame is broken
 pub keeps_open : (reader : FrameReader) (bytes : List ℕ) (given : Flow) → reader.broken ≡ None → StandsFor reader bytes given
     → Keeps None reader.judged (behind_frames reader) bytes
@@ -93,29 +88,20 @@ same_frames old new held first start =
     ∙ ap (λ (p : ℕ). slice_range new.held.items p old.start) first
     ∙ ap (λ (h : List ℕ). slice_range h old.given old.start) held
 
--- behind a broken frame no more frames are whole
-broken_whole : (bytes more : List ℕ) (place : ℕ) → broken_at bytes ≡ Some place → whole_frames (bytes ++ more) ≡ whole_frames bytes
-broken_whole bytes more place e =
-    let rest = rest_of_frames bytes in
-    let broken = is_broken (rest_place bytes) place (packet_at rest) e in
-    let later : packet_at (rest ++ more) ≡ Err Broken = subst (λ front. Stays more front (packet_at (rest ++ more))) broken.0 (packet_steady rest more) in
-    whole_of_more bytes more
-    ∙ ap (λ (f : Flow). whole_frames bytes ++ f) (ap (λ (s : Stream). s.flow) (none_is (rest ++ more) Broken later))
-    ∙ append-nil (whole_frames bytes)
-
 -- a piece behind a broken frame is counted alone
 pub piece_counted : (old new : FrameReader) (piece bytes : List ℕ) (given : Flow) (offset : ℕ) → old.broken ≡ Some offset
     → new.held.items ≡ old.held.items → new.given ≡ old.given → new.start ≡ old.start → new.fed ≡ old.fed + length piece → new.broken ≡ old.broken
     → StandsFor old bytes given → StandsFor new (bytes ++ piece) given × (broken_at (bytes ++ piece) ≡ Some offset)
 piece_counted old new piece bytes given offset is held first start fed broken stands =
-    let before : broken_at bytes ≡ Some offset = subst (λ b. Keeps b old.judged (behind_frames old) bytes) is stands.keeps in
-    let later = stays_broken bytes piece offset before in (
+    let keeps : Keeps (Some offset) old.judged (behind_frames old) bytes = subst (λ b. Keeps b old.judged (behind_frames old) bytes) is stands.keeps in
+    let later = stays_broken bytes piece offset keeps.0 in
+    let none : behind_frames new ≡ [] = ap (λ (s : ℕ). drop s new.held.items) start ∙ ap (drop old.start) held ∙ keeps.1 in (
       record {
         count = fed ∙ ap (λ (n : ℕ). n + length piece) stands.count ∙ sym (length-append bytes piece);
         waiting = stands.waiting;
         waits = record { legal = stands.waits.legal; frames = same_frames old new held first start ∙ stands.waits.frames };
-        whole = broken_whole bytes piece offset before ∙ stands.whole;
-        keeps = subst (λ b. Keeps b new.judged (behind_frames new) (bytes ++ piece)) (sym (broken ∙ is)) later;
+        whole = broken_whole bytes piece offset keeps.0 ∙ stands.whole;
+        keeps = subst (λ b. Keeps b new.judged (behind_frames new) (bytes ++ piece)) (sym (broken ∙ is)) (later, none);
       },
       later,
     )
@@ -168,68 +154,102 @@ piece_added old new piece bytes given whole held first start judged fed stands =
           (subst (IsJudged old.judged) (sym behind) (grows old.judged (behind_frames old) piece keeps.1.1));
     }
 
--- all that is held was judged
-pub record AreJudged (reader : FrameReader) (bytes : List ℕ) (given : Flow) (refused : NotWhole) : Type 0 where
-  pub count : reader.fed ≡ length bytes
-  pub waiting : Flow
-  pub waits : Waits reader waiting
-  pub whole : whole_frames bytes ≡ given ++ waiting
-  pub rest : rest_of_frames bytes ≡ behind_frames reader
-  pub front : packet_at (behind_frames reader) ≡ Err refused
-  pub on : IsJudged reader.judged (behind_frames reader)
+-- what is found in the bytes from the start on is found behind the frames
+pub found_behind : (old : FrameReader) (text bytes : List ℕ) (given : Flow) (size : ℕ) (found refused : NotWhole) (judged : Option Judged)
+    → text ≡ old.held.items → found ≡ refused
+    → (IsJudged old.judged (take (length text - old.start) (drop old.start text)) → IsRest (take (length text - old.start) (drop old.start text)) size found judged)
+    → (IsJudged old.judged (take (length text - old.start) (drop old.start text)) → AreFramesBefore size (take (length text - old.start) (drop old.start text)))
+    → Awaits old bytes given → AreFramesBefore size (behind_frames old) × IsRest (behind_frames old) size refused judged
+found_behind old text bytes given size found refused judged text_is refused_is rest frames awaits =
+    let place : take (length text - old.start) (drop old.start text) ≡ behind_frames old = from_place old.start text ∙ ap (drop old.start) text_is in
+    let first = subst (IsJudged old.judged) (sym place) awaits.on in (
+      subst (AreFramesBefore size) place (frames first),
+      subst (λ r. IsRest (behind_frames old) size r judged) refused_is (subst (λ t. IsRest t size found judged) place (rest first)),
+    )
 
-pub all_judged : (old new : FrameReader) (bytes : List ℕ) (given : Flow) (size : ℕ) (refused : NotWhole) → AreFramesBefore size (behind_frames old)
-    → new.held.items ≡ old.held.items → new.given ≡ old.given → new.start ≡ old.start + size → new.fed ≡ old.fed
-    → IsRest (behind_frames old) size refused new.judged
-    → Awaits old bytes given → AreJudged new bytes given refused
-all_judged old new bytes given size refused front held first start fed is awaits =
+-- the frames that wait, with those that were found behind them
+frames_found : (old new : FrameReader) (bytes : List ℕ) (given : Flow) (size : ℕ) → AreFramesBefore size (behind_frames old)
+    → frames_held new ≡ slice_range old.held.items old.given (old.start + size)
+    → (awaits : Awaits old bytes given) → Waits new (awaits.waiting ++ whole_frames (behind_frames old))
+frames_found old new bytes given size front held awaits =
     let text = behind_frames old in
-    let behind : behind_frames new ≡ drop size text =
+    record {
+      legal = All-append IsLegal awaits.waiting (whole_frames text) awaits.waits.legal front.0;
+      frames = held
+          ∙ slice_more old.held.items old.given old.start size old.ordered
+          ∙ ap (λ (b : List ℕ). b ++ take size text) awaits.waits.frames
+          ∙ ap (λ (b : List ℕ). frames_of awaits.waiting ++ b) front.1
+          ∙ sym (flat_map-append frame_of awaits.waiting (whole_frames text));
+    }
+
+-- all that is held was judged, and nothing is broken
+pub judged_open : (old new : FrameReader) (bytes : List ℕ) (given : Flow) (size : ℕ) → new.broken ≡ None
+    → new.held.items ≡ old.held.items → new.given ≡ old.given → new.start ≡ old.start + size → new.fed ≡ old.fed
+    → AreFramesBefore size (behind_frames old) × IsRest (behind_frames old) size Unfinished new.judged
+    → Awaits old bytes given → StandsFor new bytes given × (broken_at bytes ≡ None)
+judged_open old new bytes given size whole held first start fed found awaits =
+    let is = found.1 in
+    let behind : behind_frames new ≡ drop size (behind_frames old) =
     ap (λ (s : ℕ). drop s new.held.items) start ∙ ap (drop (old.start + size)) held ∙ sym (drop-drop size old.start old.held.items) in
-    let frames : frames_held new ≡ frames_of (awaits.waiting ++ whole_frames text) =
+    let frames : frames_held new ≡ slice_range old.held.items old.given (old.start + size) =
+    ap (λ (s : ℕ). slice_range new.held.items new.given s) start
+    ∙ ap (λ (p : ℕ). slice_range new.held.items p (old.start + size)) first
+    ∙ ap (λ (h : List ℕ). slice_range h old.given (old.start + size)) held in
+    let rest : rest_of_frames bytes ≡ behind_frames new = awaits.rest ∙ is.rest ∙ sym behind in
+    let front : packet_at (behind_frames new) ≡ Err Unfinished = ap packet_at behind ∙ is.front in (
+      record {
+        count = fed ∙ awaits.count;
+        waiting = awaits.waiting ++ whole_frames (behind_frames old);
+        waits = frames_found old new bytes given size found.0 frames awaits;
+        whole = awaits.whole ∙ append_assoc given awaits.waiting (whole_frames (behind_frames old));
+        keeps = subst (λ b. Keeps b new.judged (behind_frames new) bytes) (sym whole) (rest, (front, subst (IsJudged new.judged) (sym behind) is.on));
+      },
+      broken_rest bytes (behind_frames new) Unfinished rest front,
+    )
+
+take_twice : (n : ℕ) (list : List ℕ) → take n (take n list) ≡ take n list
+take_twice zero list = refl
+take_twice (suc n) [] = refl
+take_twice (suc n) (first ∷ list) = ap (λ (l : List ℕ). first ∷ l) (take_twice n list)
+
+-- nothing is behind the end
+drop_taken : (n : ℕ) (list : List ℕ) → drop n (take n list) ≡ []
+drop_taken n list =
+    let end : n ≡ n + 0 = omega arith in
+    ap (λ (m : ℕ). drop n (take m list)) end ∙ drop-take n 0 list
+
+-- a slice of the bytes up to its end
+slice_kept : (held : List ℕ) (given start : ℕ) → given ≤ start → slice_range (take start held) given start ≡ slice_range held given start
+slice_kept held given start ordered =
+    let place : given + (start - given) ≡ start = omega arith in
+    ap (λ (n : ℕ). take (start - given) (drop given (take n held))) (sym place)
+    ∙ ap (take (start - given)) (drop-take given (start - given) held)
+    ∙ take_twice (start - given) (drop given held)
+
+-- the rest is broken at its place, and let go
+pub judged_broken : (old new : FrameReader) (bytes : List ℕ) (given : Flow) (size offset : ℕ) (judged : Option Judged) → new.broken ≡ Some offset
+    → new.held.items ≡ take (old.start + size) old.held.items → new.given ≡ old.given → new.start ≡ old.start + size → new.fed ≡ old.fed
+    → length bytes - length (drop (old.start + size) old.held.items) ≡ offset
+    → AreFramesBefore size (behind_frames old) × IsRest (behind_frames old) size Broken judged
+    → Awaits old bytes given → StandsFor new bytes given × (broken_at bytes ≡ Some offset)
+judged_broken old new bytes given size offset judged broken held first start fed place found awaits =
+    let is = found.1 in
+    let behind : drop size (behind_frames old) ≡ drop (old.start + size) old.held.items = drop-drop size old.start old.held.items in
+    let frames : frames_held new ≡ slice_range old.held.items old.given (old.start + size) =
     ap (λ (s : ℕ). slice_range new.held.items new.given s) start
     ∙ ap (λ (p : ℕ). slice_range new.held.items p (old.start + size)) first
     ∙ ap (λ (h : List ℕ). slice_range h old.given (old.start + size)) held
-    ∙ slice_more old.held.items old.given old.start size old.ordered
-    ∙ ap (λ (b : List ℕ). b ++ take size text) awaits.waits.frames
-    ∙ ap (λ (b : List ℕ). frames_of awaits.waiting ++ b) front.1
-    ∙ sym (flat_map-append frame_of awaits.waiting (whole_frames text)) in
-    record {
-      count = fed ∙ awaits.count;
-      waiting = awaits.waiting ++ whole_frames text;
-      waits = record { legal = All-append IsLegal awaits.waiting (whole_frames text) awaits.waits.legal front.0; frames = frames };
-      whole = awaits.whole ∙ append_assoc given awaits.waiting (whole_frames text);
-      rest = awaits.rest ∙ is.rest ∙ sym behind;
-      front = ap packet_at behind ∙ is.front;
-      on = subst (IsJudged new.judged) (sym behind) is.on;
-    }
-
--- nothing was broken
-pub judged_open : (reader : FrameReader) (bytes : List ℕ) (given : Flow) → reader.broken ≡ None → AreJudged reader bytes given Unfinished
-    → StandsFor reader bytes given × (broken_at bytes ≡ None)
-judged_open reader bytes given whole are = (
-  record {
-    count = are.count;
-    waiting = are.waiting;
-    waits = are.waits;
-    whole = are.whole;
-    keeps = subst (λ b. Keeps b reader.judged (behind_frames reader) bytes) (sym whole) (are.rest, (are.front, are.on));
-  },
-  broken_rest bytes (behind_frames reader) Unfinished are.rest are.front,
-)
-
--- the rest is broken at its place
-pub judged_broken : (reader : FrameReader) (bytes : List ℕ) (given : Flow) (offset : ℕ) → reader.broken ≡ Some offset
-    → length bytes - length (behind_frames reader) ≡ offset → AreJudged reader bytes given Broken
-    → StandsFor reader bytes given × (broken_at bytes ≡ Some offset)
-judged_broken reader bytes given offset broken place are =
-    let told : broken_at bytes ≡ Some offset = broken_rest bytes (behind_frames reader) Broken are.rest are.front ∙ ap Some place in (
+    ∙ slice_kept old.held.items old.given (old.start + size) (omega (arith, old.ordered)) in
+    let none : behind_frames new ≡ [] =
+    ap (λ (s : ℕ). drop s new.held.items) start ∙ ap (drop (old.start + size)) held ∙ drop_taken (old.start + size) old.held.items in
+    let told : broken_at bytes ≡ Some offset =
+    broken_rest bytes (drop (old.start + size) old.held.items) Broken (awaits.rest ∙ is.rest ∙ behind) (ap packet_at (sym behind) ∙ is.front) ∙ ap Some place in (
       record {
-        count = are.count;
-        waiting = are.waiting;
-        waits = are.waits;
-        whole = are.whole;
-        keeps = subst (λ b. Keeps b reader.judged (behind_frames reader) bytes) (sym broken) told;
+        count = fed ∙ awaits.count;
+        waiting = awaits.waiting ++ whole_frames (behind_frames old);
+        waits = frames_found old new bytes given size found.0 frames awaits;
+        whole = awaits.whole ∙ append_assoc given awaits.waiting (whole_frames (behind_frames old));
+        keeps = subst (λ b. Keeps b new.judged (behind_frames new) bytes) (sym broken) (told, none);
       },
       told,
     )
@@ -238,7 +258,7 @@ judged_broken reader bytes given offset broken place are =
 waiting_read : (flow : Flow) (bytes : List ℕ) (packet : PlainPacket) (rest : List ℕ) → All IsLegal flow → bytes ≡ frames_of flow
     → packet_at bytes ≡ Ok (packet, rest) → (more : Flow) × (flow ≡ packet ∷ more) × (rest ≡ frames_of more) × (All IsLegal more)
 waiting_read [] bytes packet rest legal frames read =
-    absurd (not_refused (packet_at bytes) (packet, rest) Unfinished read (ap packet_at frames ∙ nothing_unfinished))
+    absurd (not_refused (packet_at bytes) (packet, rest) Unfinished read (ap packet_at frames ∙ nothing_at_end))
 waiting_read (first ∷ flow) bytes packet rest legal frames read =
     let again = packet_again first (frames_of flow) (All-head IsLegal first flow legal) in
     let same = found_is (first, frames_of flow) (packet, rest) (sym again ∙ ap packet_at (sym frames) ∙ read) in (
@@ -248,11 +268,18 @@ waiting_read (first ∷ flow) bytes packet rest legal frames read =
       All-tail IsLegal first flow legal,
     )
 
+-- the packet of the first of the frames that wait is the next
+pub one_waits : (reader : FrameReader) (bytes rest : List ℕ) (given : Flow) (packet : PlainPacket) → packet_at (frames_held reader) ≡ Ok (packet, rest)
+    → StandsFor reader bytes given → IsNext (whole_frames bytes) given packet
+one_waits reader bytes rest given packet read stands =
+    let others = waiting_read stands.waiting (frames_held reader) packet rest stands.waits.legal stands.waits.frames read in
+    (others.0, stands.whole ∙ ap (λ (w : Flow). given ++ w) others.1 ∙ sym (append_assoc given (packet ∷ []) others.0))
+
 -- the first of the frames that wait is given
 pub one_given : (old new : FrameReader) (bytes rest : List ℕ) (given : Flow) (packet : PlainPacket) → packet_at (frames_held old) ≡ Ok (packet, rest)
     → new.held.items ≡ old.held.items → new.given ≡ old.start - length rest → new.start ≡ old.start → new.judged ≡ old.judged → new.fed ≡ old.fed
     → new.broken ≡ old.broken → StandsFor old bytes given
-    → StandsFor new bytes (given ++ packet ∷ []) × IsPrefix (given ++ packet ∷ []) (whole_frames bytes)
+    → StandsFor new bytes (given ++ packet ∷ []) × IsNext (whole_frames bytes) given packet
 one_given old new bytes rest given packet read held first start judged fed broken stands =
     let within : old.start ≤ length old.held.items = omega (arith, old.judged_within) in
     let others = waiting_read stands.waiting (frames_held old) packet rest stands.waits.legal stands.waits.frames read in

@@ -4,18 +4,18 @@ use Rattle.std.proofs.lemmas.List.{length-append, length-drop, drop-drop, take_a
 use Rattle.std.proofs.lemmas.List.Elements.{All-drop}
 use Rattle.std.proofs.lemmas.Bool.{le-ltb, lt-ltb}
 use Rattle.up_base.specs.Number.{AreBytes, big_endian_bytes}
-use Rattle.up_frame.proofs.Attributes.{attribute_takes}
-use Rattle.up_frame.proofs.Fields.{found, number_takes, length_digits}
-use Rattle.up_frame.proofs.Shorter.{attribute_shrinks}
-use Rattle.up_frame.proofs.Steady.{Stays, Steady, number_steady, attribute_steady}
-use Rattle.up_frame.specs.Fronts.{Front, ◌>>=◌, field, number_at, is_any, attribute_at, attributes_at, content_at, packet_at}
 use Rattle.up_frame.specs.Judging.{name_or_none, goes_on, GoesOn, IsJudged, EndsAt}
-use Rattle.up_frame.specs.Spelling.{attribute_bytes}
 use Rattle.up_frame.specs.declared.judged.Judged.{Judged}
-use Rattle.up_frame.specs.declared.layout.NotWhole.{NotWhole}
-use Rattle.up_frame.specs.declared.layout.NotWhole.TheVariants.{Unfinished}
-use Rattle.up_frame.specs.declared.layout.TheConstants.{MARK, VERSION}
 use Rattle.up_model.proofs.AttrLists.{Attr, attrs_of}
+use Rattle.up_model.proofs.FrameAttributes.{attribute_takes}
+use Rattle.up_model.proofs.FrameFields.{found, number_takes, length_digits}
+use Rattle.up_model.proofs.FrameShorter.{attribute_shrinks}
+use Rattle.up_model.proofs.FrameSteady.{Stays, Steady, number_steady, attribute_steady}
+use Rattle.up_model.specs.FrameFronts.{Front, ◌>>=◌, field, number_at, is_any, attribute_at, attributes_at, content_at, packet_at}
+use Rattle.up_model.specs.FrameSpelling.{attribute_bytes}
+use Rattle.up_model.specs.declared.frame_layout.NotWhole.{NotWhole}
+use Rattle.up_model.specs.declared.frame_layout.NotWhole.TheVariants.{Unfinished}
+use Rattle.up_model.specs.declared.frame_layout.TheConstants.{MARK, VERSION}
 use Rattle.up_model.specs.declared.limits.TheConstants.{MAX_ATTRS, MAX_PACKET}
 use Rattle.up_model.specs.declared.plain_packet.PlainPacket.{PlainPacket}
 use Rattle.up_model.specs.declared.value.Value.{Value}

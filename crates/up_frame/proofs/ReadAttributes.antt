@@ -1,9 +1,9 @@
 -- Attributes that are passed over one by one.
 use Rattle.std.proofs.Common.{◌≡◌, ℕ, suc, ◌+◌, ◌-◌, ◌<◌, ◌≤◌, List, [], ◌∷◌, ◌++◌, Ok, Err, refl, sym, ap, ◌∙◌, append_assoc, append-nil, arith}
-use Rattle.up_frame.proofs.Fields.{found}
-use Rattle.up_frame.specs.Fronts.{Front, ◌>>=◌, field, attribute_at, attributes_at, is_any, content_at}
-use Rattle.up_frame.specs.declared.layout.NotWhole.{NotWhole}
 use Rattle.up_model.proofs.AttrLists.{Attr, attrs_of}
+use Rattle.up_model.proofs.FrameFields.{found}
+use Rattle.up_model.specs.FrameFronts.{Front, ◌>>=◌, field, attribute_at, attributes_at, is_any, content_at}
+use Rattle.up_model.specs.declared.frame_layout.NotWhole.{NotWhole}
 use Rattle.up_model.specs.declared.plain_packet.PlainPacket.{PlainPacket}
 use Rattle.up_model.specs.declared.value.Value.{Value}
 

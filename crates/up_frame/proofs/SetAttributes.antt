@@ -5,13 +5,13 @@ use Rattle.std.specs.FinMap.{entries, entries-from_sorted, same_entries_map, emp
 use Rattle.std.proofs.lemmas.List.{take_all, drop-drop, length-take-le}
 use Rattle.std.proofs.lemmas.Option.{slice_get_within}
 use Rattle.up_base.specs.Number.{AreBytes}
-use Rattle.up_frame.proofs.Attributes.{attributes_take}
-use Rattle.up_frame.proofs.Fields.{bind_ok, found, found_is}
-use Rattle.up_frame.specs.Fronts.{Front, ◌>>=◌, attribute_at, attributes_at}
-use Rattle.up_frame.specs.declared.layout.NotWhole.{NotWhole}
 use Rattle.up_model.proofs.AttrLists.{Attr, HasOrder, by_name, attrs_of}
+use Rattle.up_model.proofs.FrameAttributes.{attributes_take}
+use Rattle.up_model.proofs.FrameFields.{bind_ok, found, found_is}
 use Rattle.up_model.specs.Attrs.{Attrs}
+use Rattle.up_model.specs.FrameFronts.{Front, ◌>>=◌, attribute_at, attributes_at}
 use Rattle.up_model.specs.Value.{IsLegalValue}
+use Rattle.up_model.specs.declared.frame_layout.NotWhole.{NotWhole}
 use Rattle.up_model.specs.declared.plain_packet.PlainPacket.{PlainPacket}
 use Rattle.up_model.specs.declared.value.Value.{Value}
 use Rattle.up_shape.proofs.Copies.{next_copied, entries-empty}

@@ -1,12 +1,12 @@
 -- How far a frame was judged that isn't whole yet, and how it goes on from there.
 use Rattle.std.specs.Prelude.{◌≡◌, ℕ, List, [], ◌++◌, length, take, drop, All, Option, Some, None, Result, Ok, Err}
 use Rattle.std.specs.FinMap.{from_sorted}
-use Rattle.up_frame.specs.Fronts.{Front, ◌>>=◌, field, is_any, attributes_at, packet_at}
-use Rattle.up_frame.specs.Spelling.{frames_of}
-use Rattle.up_frame.specs.Streams.{whole_frames, rest_of_frames}
 use Rattle.up_frame.specs.declared.judged.Judged.{Judged}
-use Rattle.up_frame.specs.declared.layout.NotWhole.{NotWhole}
+use Rattle.up_model.specs.FrameFronts.{Front, ◌>>=◌, field, is_any, attributes_at, packet_at}
+use Rattle.up_model.specs.FrameSpelling.{frames_of}
+use Rattle.up_model.specs.FrameStreams.{whole_frames, rest_of_frames}
 use Rattle.up_model.specs.Packet.{IsLegal}
+use Rattle.up_model.specs.declared.frame_layout.NotWhole.{NotWhole}
 use Rattle.up_model.specs.declared.plain_packet.PlainPacket.{PlainPacket}
 use Rattle.up_model.specs.declared.value.Value.{Value}
 

@@ -1,16 +1,26 @@
 -- What a reader of frames that come in pieces was fed, and which packets it gave.
-use Rattle.std.specs.Prelude.{◌≡◌, ℕ, List, [], ◌∷◌, ◌++◌, length, drop, slice_range, All, Option, Some, None, Result, Ok, Err}
+use Rattle.std.specs.Prelude.{◌≡◌, ℕ, ◌-◌, ◌≤◌, List, [], ◌∷◌, ◌++◌, length, drop, slice_range, All, Option, Some, None, Result, Ok, Err}
 use Rattle.up_base.specs.Lists.{IsPrefix}
 use Rattle.up_base.specs.declared.refusal.NoMemory.{NoMemory}
 use Rattle.up_frame.specs.Judging.{IsJudged}
-use Rattle.up_frame.specs.Scanners.{Keeps}
-use Rattle.up_frame.specs.Spelling.{frames_of}
-use Rattle.up_frame.specs.Streams.{whole_frames, rest_of_frames, broken_at}
 use Rattle.up_frame.specs.declared.frame_reader.FrameReader.{FrameReader}
+use Rattle.up_frame.specs.declared.judged.Judged.{Judged}
+use Rattle.up_frame.specs.declared.refusals.BadFrame.{BadFrame}
 use Rattle.up_frame.specs.declared.refusals.FeedRefused.{FeedRefused}
 use Rattle.up_frame.specs.declared.refusals.FeedRefused.TheVariants as refusals
+use Rattle.up_model.specs.FrameFronts.{packet_at}
+use Rattle.up_model.specs.FrameSpelling.{frames_of}
+use Rattle.up_model.specs.FrameStreams.{whole_frames, rest_of_frames, broken_at}
 use Rattle.up_model.specs.Packet.{Flow, IsLegal}
+use Rattle.up_model.specs.declared.frame_layout.NotWhole.TheVariants.{Unfinished}
 use Rattle.up_model.specs.declared.plain_packet.PlainPacket.{PlainPacket}
+
+-- nothing is broken, and the unfinished rest is held and judged so far; or a frame is broken at the place,
+-- and nothing of it is held
+abbrev pub Keeps : Option ℕ → Option Judged → List ℕ → List ℕ → Type 0
+Keeps None judged held bytes =
+    (rest_of_frames bytes ≡ held) × ((packet_at held ≡ Err Unfinished) × IsJudged judged held)
+Keeps (Some place) judged held bytes = (broken_at bytes ≡ Some place) × (held ≡ [])
 
 -- the whole frames that are held and weren't given, and what stands behind them
 abbrev pub frames_held : FrameReader → List ℕ
@@ -58,7 +68,8 @@ fed_with bytes piece (Ok done) = bytes ++ piece
 fed_with bytes piece (Err (refusals.BadFrame offset)) = bytes ++ piece
 fed_with bytes piece (Err refusals.NoMemory) = bytes
 
--- the piece was added, unless there was no room and nothing is broken; a broken frame is told by its place
+-- the piece was added, unless there was no room and nothing is broken; a broken frame is told by its
+-- place
 abbrev pub Feeds : FrameReader → FrameReader → List ℕ → Result (Unit {0}) FeedRefused → Type 0
 Feeds old new piece result = (bytes : List ℕ) (given : Flow) → StandsFor old bytes given
     → StandsFor new (fed_with bytes piece result) given
@@ -71,16 +82,37 @@ plain_answer plain (Ok (Some packet)) = Ok (Some (plain packet))
 plain_answer plain (Ok None) = Ok None
 plain_answer plain (Err refused) = Err refused
 
--- the next packet was given, which is one of the whole frames, or all of these were given before
+-- the packets with the one that an answer gives
+abbrev pub given_with : Flow → Result (Option PlainPacket) NoMemory → Flow
+given_with given (Ok (Some packet)) = given ++ packet ∷ []
+given_with given (Ok None) = given
+given_with given (Err refused) = given
+
+-- of all packets these were given, and then comes this one
+abbrev pub IsNext : Flow → Flow → PlainPacket → Type 0
+IsNext all given packet = IsPrefix (given ++ packet ∷ []) all
+
+-- the packet is the next one, all were given before, or one waits for which there is no memory
+abbrev pub TellsNext : Flow → Flow → Result (Option PlainPacket) NoMemory → Type 0
+TellsNext all given (Ok (Some packet)) = IsNext all given packet
+TellsNext all given (Ok None) = given ≡ all
+TellsNext all given (Err refused) = (packet : PlainPacket) × IsNext all given packet
+
+-- the next packet of the whole frames is given, where there is one
 abbrev pub Gives : FrameReader → FrameReader → Result (Option PlainPacket) NoMemory → Type 0
-Gives old new (Ok (Some packet)) = (bytes : List ℕ) (given : Flow) → StandsFor old bytes given
-    → StandsFor new bytes (given ++ packet ∷ [])
-    × IsPrefix (given ++ packet ∷ []) (whole_frames bytes)
-Gives old new (Ok None) = (bytes : List ℕ) (given : Flow) → StandsFor old bytes given
-    → StandsFor new bytes given × (given ≡ whole_frames bytes)
-Gives old new (Err refused) = (bytes : List ℕ) (given : Flow) → StandsFor old bytes given
-    → StandsFor new bytes given
+Gives old new result = (bytes : List ℕ) (given : Flow) → StandsFor old bytes given
+    → StandsFor new bytes (given_with given result)
+    × TellsNext (whole_frames bytes) given result
 
 -- how many bytes were fed
 abbrev pub bytes_fed : FrameReader → ℕ
 bytes_fed reader = reader.fed
+
+-- of frames that were given no more bytes are held than of all others
+abbrev pub IsSparing : FrameReader → Type 0
+IsSparing reader = reader.given ≤ length reader.held.items - reader.given
+
+-- the place where the bytes are cut, where they are
+abbrev pub TellsCut : Option ℕ → Result (Unit {0}) BadFrame → Type 0
+TellsCut cut (Ok done) = cut ≡ None
+TellsCut cut (Err refused) = cut ≡ Some refused.offset

@@ -3,19 +3,19 @@ use Rattle.std.specs.Prelude.{◌≡◌, ℕ, ◌≤◌, List, [], ◌++◌, len
 use Rattle.std.specs.Borrow.{Bor}
 use Rattle.std.specs.FinMap.{from_sorted}
 use Rattle.up_base.specs.Number.{AreBytes}
-use Rattle.up_frame.specs.Fronts.{Front, attributes_at}
-use Rattle.up_frame.specs.Spelling.{frame_of}
 use Rattle.up_frame.specs.declared.frame_parts.FrameParts.{FrameParts}
-use Rattle.up_frame.specs.declared.layout.NotWhole.{NotWhole}
+use Rattle.up_model.specs.FrameFronts.{Front, attributes_at}
+use Rattle.up_model.specs.FrameSpelling.{frame_of}
 use Rattle.up_model.specs.Packet.{IsLegal}
+use Rattle.up_model.specs.declared.frame_layout.NotWhole.{NotWhole}
 use Rattle.up_model.specs.declared.limits.TheConstants.{MAX_ATTRS, MAX_PACKET}
 use Rattle.up_model.specs.declared.plain_packet.PlainPacket.{PlainPacket}
 use Rattle.up_model.specs.declared.value.Value.{Value}
 
 -- the answer, seen by view, is what the front is
-abbrev pub Gives : {X Y : Type 0} → (X → Y) → Result X NotWhole → Result Y NotWhole → Type 0
-Gives view (Ok x) front = front ≡ Ok (view x)
-Gives view (Err refused) front = front ≡ Err refused
+abbrev pub Finds : {X Y : Type 0} → (X → Y) → Result X NotWhole → Result Y NotWhole → Type 0
+Finds view (Ok x) front = front ≡ Ok (view x)
+Finds view (Err refused) front = front ≡ Err refused
 
 -- the answer tells what is behind the front, or why nothing whole stands there
 abbrev pub Ends : {X A : Type 0} → (X → List ℕ) → Result X NotWhole → Front A → Type 0

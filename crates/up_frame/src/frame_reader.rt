@@ -4,17 +4,17 @@ ghost use Rattle.up_frame.specs.Judging.{judged_place};
 
 use crate::judged::Judged;
 use crate::judging::rest_start;
-use crate::layout::NotWhole;
 use crate::making::packet_of;
 use crate::reading::frame_parts;
 use crate::refusals::{BadFrame, FeedRefused};
 use std::alloc::Global;
 use up_base::NoMemory;
+use up_model::NotWhole;
 use up_shape::LocalPacket;
 
 /// Reads packets from frames that come in any pieces. A field is judged once all its bytes are there, and an attribute
 /// that was judged whole isn't judged again. Where packets are taken until none is left after each piece, only the frame
-/// that isn't whole yet is held beside that piece.
+/// that isn't whole yet is held beside that piece. Of a broken frame nothing is held.
 #[derive(Debug, Drop)]
 pub struct FrameReader {
     /// Bytes that were given as packets, whole frames that wait from the place `given` on, and what isn't whole from the place
@@ -36,13 +36,14 @@ impl FrameReader {
       Awaits,
       Feeds,
       Gives,
+      IsSparing,
       Judges,
       StandsFor,
+      TellsCut,
       bytes_fed,
       plain_answer,
     };
-    ghost use Rattle.up_frame.specs.Scanners.{TellsCut};
-    ghost use Rattle.up_frame.specs.Streams.{broken_at, cut_at};
+    ghost use Rattle.up_model.specs.FrameStreams.{broken_at, cut_at};
     ghost use Rattle.up_model.specs.Packet.{Flow, IsLegal};
     ghost use Rattle.up_shape.specs.Stores.{Stays};
 
@@ -74,6 +75,7 @@ impl FrameReader {
     fn compact(&mut self)
         ensures stands { (bytes : List ℕ) (given : Flow) → StandsFor self.old bytes given
             → StandsFor self.new bytes given }
+        ensures sparing { IsSparing self.new }
         ensures count { bytes_fed self.new ≡ bytes_fed self.old }
         ensures broken { self.new.broken ≡ self.old.broken }
     {
@@ -94,6 +96,7 @@ impl FrameReader {
             → OnOk result (Awaits self.new (bytes ++ piece.now) given) }
         ensures unchanged { (bytes : List ℕ) (given : Flow) → StandsFor self.old bytes given
             → OnErr result (StandsFor self.new bytes given × (broken_at bytes ≡ None)) }
+        ensures sparing { IsSparing self.old → IsSparing self.new }
         ensures count { bytes_fed self.new ≤ bytes_fed self.old + length piece.now }
         ensures broken { self.new.broken ≡ None }
     {
@@ -102,10 +105,11 @@ impl FrameReader {
         Ok(())
     }
 
-    /// Judges the bytes that weren't judged yet, and tells the place of a broken frame.
+    /// Judges the bytes that weren't judged yet, and tells the place of a broken frame, whose bytes it lets go.
     fn judge(&mut self) -> Option<u64>
         requires whole { self.old.broken ≡ None }
         ensures judged { Judges self.old self.new result }
+        ensures sparing { result ≡ None → IsSparing self.old → IsSparing self.new }
         ensures count { bytes_fed self.new ≡ bytes_fed self.old }
     {
         let mut judged = self.judged;
@@ -116,6 +120,8 @@ impl FrameReader {
             NotWhole::Unfinished => None,
             NotWhole::Broken => {
                 let offset = self.fed - (self.held.len() - self.start) as u64;
+                self.judged = None;
+                self.held.truncate(self.start);
                 self.broken = Some(offset);
                 Some(offset)
             }
@@ -127,20 +133,24 @@ impl FrameReader {
     pub fn feed(&mut self, piece: &[u8]) -> Result<(), FeedRefused>
         requires { bytes_fed self.old + length piece.now < 2 ^ 64 }
         ensures fed { Feeds self.old self.new piece.now result }
+        ensures sparing { IsSparing self.new }
         ensures count { bytes_fed self.new ≤ bytes_fed self.old + length piece.now }
     {
+        self.compact();
         if let Some(offset) = self.broken {
             self.fed += piece.len() as u64;
             return Err(FeedRefused::BadFrame { offset });
         }
-        self.compact();
         match self.add(piece) {
             Ok(()) => {}
             Err(_) => return Err(FeedRefused::NoMemory),
         }
         match self.judge() {
             None => Ok(()),
-            Some(offset) => Err(FeedRefused::BadFrame { offset }),
+            Some(offset) => {
+                self.compact();
+                Err(FeedRefused::BadFrame { offset })
+            }
         }
     }
 
@@ -153,6 +163,8 @@ impl FrameReader {
         ensures drawn { IfOk result (λ r. IfSome r (λ p. 0 < length (P.plain p).bytes
             → (P.Store.state s.old).drawn < (P.Store.state s.new).drawn)) }
         ensures store { Stays (P.Store.state s.old) (P.Store.state s.new) }
+        ensures untouched { IfOk result
+            (λ r. r ≡ None → P.Store.state s.new ≡ P.Store.state s.old) }
         ensures count { bytes_fed self.new ≡ bytes_fed self.old }
     {
         let (parts, rest) = match frame_parts(&self.held[self.given..self.start]) {

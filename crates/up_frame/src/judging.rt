@@ -1,6 +1,5 @@
 //! Frames that are judged as far as their bytes are there.
 ghost use Rattle.std.specs.Prelude.{◌≡◌, ◌+◌, ◌<◌, ◌≤◌, length, IfOk, IfSome, None, Err};
-ghost use Rattle.up_frame.specs.Fronts.{packet_at};
 ghost use Rattle.up_frame.specs.Judging.{
   AreFramesBefore,
   EndsAt,
@@ -11,11 +10,12 @@ ghost use Rattle.up_frame.specs.Judging.{
   judged_place,
   name_or_none,
 };
+ghost use Rattle.up_model.specs.FrameFronts.{packet_at};
 
 use crate::judged::Judged;
-use crate::layout::{MARK, NotWhole, VERSION};
 use crate::reading::{attribute, behind_byte, count_at, size_at};
 use up_base::AttrName;
+use up_model::{MARK, NotWhole, VERSION};
 
 /// Judges the head of a frame.
 #[tactic(auto, unfolding(crate::specs::Fronts::packet_at))]

@@ -1,8 +1,8 @@
 //! Packets that are made of the parts of their frames.
 ghost use Rattle.std.specs.Prelude.{◌≡◌, ◌<◌, ◌≤◌, List, ℕ, [], length, IfOk, OnOk, Ok};
 ghost use Rattle.std.specs.FinMap.{empty, from_sorted};
-ghost use Rattle.up_frame.specs.Fronts.{attributes_at};
 ghost use Rattle.up_frame.specs.Reading.{AreParts, ReadsAs, packet_with};
+ghost use Rattle.up_model.specs.FrameFronts.{attributes_at};
 ghost use Rattle.up_model.specs.declared.limits.TheConstants.{MAX_ATTRS};
 ghost use Rattle.up_model.specs.declared.value.Value.{Value};
 ghost use Rattle.up_shape.specs.Stores.{Stays};

@@ -2,24 +2,34 @@ ghost use Rattle.std.specs.Prelude.{◌<◌, IfOk};
 ghost use Rattle.up_model.specs.Packet.{IsLegal};
 ghost use Rattle.up_shape.specs.VecPackets.{plain_of};
 
-use crate::tests::{EACH_TYPE, fresh, set_opaque};
-use crate::{BadFrame, FeedRefused, FrameReader, NotWhole, behind_frame, write_frame};
+use crate::field_tests::{BROKEN, BROKEN_HEADS, behind_head};
+use crate::tests::{EACH_TYPE, LONGEST_NAME, fresh, set_opaque};
+use crate::{BadFrame, FeedRefused, FrameReader, behind_frame, write_frame};
 use std::alloc::Global;
 use std::process::Abort;
 use std::test::Fail;
 use up_base::{AttrName, Bytes};
-use up_model::ValueView;
+use up_model::{NotWhole, ValueView};
 use up_shape::{LocalPacket, VecPacket, VecStore};
 
 /// Feeds a piece to a reader that was fed little so far.
-fn feed(rt: &impl Abort, reader: &mut FrameReader, piece: &[u8]) -> Result<(), FeedRefused> {
+pub(crate) fn feed(
+    rt: &impl Abort,
+    reader: &mut FrameReader,
+    piece: &[u8],
+) -> Result<(), FeedRefused> {
     assert!(rt; reader.fed() < 1_000_000_000);
     assert!(rt; piece.len() < 1_000_000_000);
     reader.feed(piece)
 }
 
 /// Takes all packets that wait, and adds their frames.
-fn take_all(rt: &impl Abort, alloc: Global, reader: &mut FrameReader, frames: &mut Bytes) -> u64 {
+pub(crate) fn take_all(
+    rt: &impl Abort,
+    alloc: Global,
+    reader: &mut FrameReader,
+    frames: &mut Bytes,
+) -> u64 {
     let mut store = VecStore::new(alloc);
     for count in 0..1000 {
         match reader.next_packet::<VecPacket>(&mut store) {
@@ -44,7 +54,7 @@ fn rest_of(bytes: &[u8]) -> (usize, NotWhole) {
 }
 
 /// What a piece is answered up to which these bytes were fed.
-pub(crate) fn wanted_answer(bytes: &[u8]) -> Result<(), FeedRefused> {
+fn wanted_answer(bytes: &[u8]) -> Result<(), FeedRefused> {
     let (left, refused) = rest_of(bytes);
     match refused {
         NotWhole::Unfinished => Ok(()),
@@ -116,7 +126,7 @@ fn assert_read(rt: &impl Abort, alloc: Global, bytes: &[u8]) {
 }
 
 /// The packet `ab`, and the first bytes of a frame.
-const TEN_AND_THREE: [u8; 13] = [0x46, 1, 0, 0, 0, 0, 0, 2, 0x61, 0x62, 0x46, 1, 0];
+pub(crate) const TEN_AND_THREE: [u8; 13] = [0x46, 1, 0, 0, 0, 0, 0, 2, 0x61, 0x62, 0x46, 1, 0];
 
 #[test]
 fn a_packet_comes_once_its_last_byte_is_fed_and_the_end_tells_what_is_unfinished(rt: HostRuntime) {
@@ -188,7 +198,7 @@ fn each_byte_of_a_frame_changed_is_read_as_it_is_found(rt: HostRuntime) -> Resul
 }
 
 #[test]
-fn each_front_of_a_frame_is_unfinished(rt: HostRuntime) -> Result<(), Fail> {
+fn each_front_of_a_frame_behind_another_is_unfinished(rt: HostRuntime) -> Result<(), Fail> {
     for size in 0..58 {
         let mut bytes = Bytes::from_slice(rt.alloc(), &TEN_AND_THREE[..10])?;
         bytes.append(&EACH_TYPE[..size])?;
@@ -212,43 +222,19 @@ fn assert_broken(rt: &impl Abort, alloc: Global, bytes: &[u8]) -> Result<(), Fai
 
 #[test]
 fn each_field_is_broken_just_beyond_its_ends(rt: HostRuntime) -> Result<(), Fail> {
-    let table: [&[u8]; 26] = [
-        &[0x45],
-        &[0x47],
-        &[0x46, 0],
-        &[0x46, 2],
-        &[0x46, 1, 0, 65],
-        &[0x46, 1, 1, 0],
-        &[0x46, 1, 0, 0, 0, 0x10, 0, 1],
-        &[0x46, 1, 0, 0, 1, 0, 0, 0],
-        &[0x46, 1, 0, 1, 0, 0, 0, 0, 0],
-        &[0x46, 1, 0, 1, 0, 0, 0, 0, 65],
-        &[0x46, 1, 0, 1, 0, 0, 0, 0, 1, 0x2c],
-        &[0x46, 1, 0, 1, 0, 0, 0, 0, 1, 0x2f],
-        &[0x46, 1, 0, 1, 0, 0, 0, 0, 1, 0x40],
-        &[0x46, 1, 0, 1, 0, 0, 0, 0, 1, 0x5b],
-        &[0x46, 1, 0, 1, 0, 0, 0, 0, 1, 0x7b],
-        &[0x46, 1, 0, 1, 0, 0, 0, 0, 1, 0x78, 0],
-        &[0x46, 1, 0, 1, 0, 0, 0, 0, 1, 0x78, 6],
-        &[0x46, 1, 0, 1, 0, 0, 0, 0, 1, 0x78, 1, 0, 0, 0, 1],
-        &[0x46, 1, 0, 1, 0, 0, 0, 0, 1, 0x78, 2, 0, 0, 0, 0],
-        &[0x46, 1, 0, 1, 0, 0, 0, 0, 1, 0x78, 2, 0, 0, 0, 2],
-        &[0x46, 1, 0, 1, 0, 0, 0, 0, 1, 0x78, 3, 0, 0, 0, 7],
-        &[0x46, 1, 0, 1, 0, 0, 0, 0, 1, 0x78, 3, 0, 0, 0, 9],
-        &[0x46, 1, 0, 1, 0, 0, 0, 0, 1, 0x78, 5, 0, 0, 0x10, 1],
-        &[0x46, 1, 0, 1, 0, 0, 0, 0, 1, 0x78, 2, 0, 0, 0, 1, 2],
-        &[0x46, 1, 0, 1, 0, 0, 0, 0, 1, 0x78, 4, 0, 0, 0, 1, 0xff],
-        &[0x46, 1, 0, 2, 0, 0, 0, 0, 1, 0x62, 1, 0, 0, 0, 0, 1, 0x62],
-    ];
-    for bytes in table {
+    for bytes in BROKEN_HEADS {
         assert_broken(&rt, rt.alloc(), bytes)?;
+    }
+    for bytes in BROKEN {
+        let front = behind_head(rt.alloc(), bytes)?;
+        assert_broken(&rt, rt.alloc(), front.as_slice())?;
     }
     Ok(())
 }
 
 /// The name of 64 bytes that ends with this number in octal.
 fn long_name(number: u8) -> [u8; 64] {
-    let mut name = [0x6e; 64];
+    let mut name = LONGEST_NAME;
     name[62] = 0x30 + number / 8 % 8;
     name[63] = 0x30 + number % 8;
     name

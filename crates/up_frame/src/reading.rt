@@ -1,11 +1,10 @@
 //! What stands at the front of bytes, field by field.
 ghost use Rattle.std.specs.Prelude.{◌≡◌, ◌==◌, ◌≤◌, nat_le, true, false, [], length, IfOk, MatchOption};
-ghost use Rattle.std.specs.Cmp.Lexicographic.{slice_cmp};
-ghost use Rattle.std.specs.Ordering.{nat_cmp, is_lt};
 ghost use Rattle.std.specs.Str.{is_utf8};
 ghost use Rattle.up_base.specs.Name.{is_name, is_within};
 ghost use Rattle.up_base.specs.declared.name_text.TheConstants.{NAME_SIZE};
-ghost use Rattle.up_frame.specs.Fronts.{
+ghost use Rattle.up_frame.specs.Reading.{BeginsWithFrame, Ends, Finds, Parted};
+ghost use Rattle.up_model.specs.FrameFronts.{
   field,
   number_at,
   is_any,
@@ -13,7 +12,6 @@ ghost use Rattle.up_frame.specs.Fronts.{
   type_at,
   is_size_of,
   is_value_of,
-  value_of,
   as_value,
   value_at,
   attribute_at,
@@ -21,20 +19,17 @@ ghost use Rattle.up_frame.specs.Fronts.{
   content_at,
   packet_at,
 };
-ghost use Rattle.up_frame.specs.Reading.{BeginsWithFrame, Ends, Gives, Parted};
-ghost use Rattle.up_frame.specs.Types.{type_with};
 ghost use Rattle.up_model.specs.Value.{lent};
+ghost use Rattle.up_model.specs.ValueTypes.{value_of};
 ghost use Rattle.up_model.specs.declared.limits.TheConstants.{MAX_ATTRS, MAX_PACKET};
 
 use crate::frame_parts::FrameParts;
-use crate::layout::{MARK, NotWhole, VERSION, ValueType};
-use std::cmp::Ordering;
 use up_base::{AttrName, read_u16, read_u32, read_u64};
-use up_model::{MAX_ATTRS, MAX_PACKET, MAX_VALUE, ValueView};
+use up_model::{MARK, MAX_ATTRS, MAX_PACKET, MAX_VALUE, NotWhole, VERSION, ValueType, ValueView};
 
 /// A field of so many bytes, whatever they are, and what is behind it.
 fn cut(bytes: &[u8], size: usize) -> Result<(&[u8], &[u8]), NotWhole>
-    ensures { Gives (λ x. (x.0.now, x.1.now)) result (field size is_any bytes.now) }
+    ensures { Finds (λ x. (x.0.now, x.1.now)) result (field size is_any bytes.now) }
 {
     if bytes.len() < size {
         return Err(NotWhole::Unfinished);
@@ -44,7 +39,7 @@ fn cut(bytes: &[u8], size: usize) -> Result<(&[u8], &[u8]), NotWhole>
 
 /// What is behind a byte that is this number.
 pub(crate) fn behind_byte(bytes: &[u8], number: u8) -> Result<&[u8], NotWhole>
-    ensures { Gives (λ rest. (number, rest.now)) result
+    ensures { Finds (λ rest. (number, rest.now)) result
         (number_at 1 (λ byte. byte == number) bytes.now) }
 {
     match bytes {
@@ -61,7 +56,7 @@ pub(crate) fn behind_byte(bytes: &[u8], number: u8) -> Result<&[u8], NotWhole>
 
 /// How many bytes a name has.
 fn name_size_at(bytes: &[u8]) -> Result<(usize, &[u8]), NotWhole>
-    ensures { Gives (λ x. (x.0, x.1.now)) result (number_at 1 (is_within 1 NAME_SIZE) bytes.now) }
+    ensures { Finds (λ x. (x.0, x.1.now)) result (number_at 1 (is_within 1 NAME_SIZE) bytes.now) }
 {
     match bytes {
         [] => Err(NotWhole::Unfinished),
@@ -77,7 +72,7 @@ fn name_size_at(bytes: &[u8]) -> Result<(usize, &[u8]), NotWhole>
 
 /// How many attributes there are.
 pub(crate) fn count_at(bytes: &[u8]) -> Result<(u16, &[u8]), NotWhole>
-    ensures front { Gives (λ x. (x.0, x.1.now)) result
+    ensures front { Finds (λ x. (x.0, x.1.now)) result
         (number_at 2 (λ count. nat_le count MAX_ATTRS) bytes.now) }
     ensures few { IfOk result (λ x. x.0 ≤ MAX_ATTRS) }
 {
@@ -93,7 +88,7 @@ pub(crate) fn count_at(bytes: &[u8]) -> Result<(u16, &[u8]), NotWhole>
 
 /// How many bytes the packet has.
 pub(crate) fn size_at(bytes: &[u8]) -> Result<(u32, &[u8]), NotWhole>
-    ensures front { Gives (λ x. (x.0, x.1.now)) result
+    ensures front { Finds (λ x. (x.0, x.1.now)) result
         (number_at 4 (λ size. nat_le size MAX_PACKET) bytes.now) }
     ensures few { IfOk result (λ x. x.0 ≤ MAX_PACKET) }
 {
@@ -122,7 +117,7 @@ fn may_have(type_: ValueType, size: u32) -> bool
 
 /// How many bytes a value of this type has.
 fn value_size_at(bytes: &[u8], type_: ValueType) -> Result<(u32, &[u8]), NotWhole>
-    ensures front { Gives (λ x. (x.0, x.1.now)) result
+    ensures front { Finds (λ x. (x.0, x.1.now)) result
         (number_at 4 (is_size_of type_) bytes.now) }
     ensures size { IfOk result (λ x. is_size_of type_ x.0 ≡ true) }
 {
@@ -136,27 +131,13 @@ fn value_size_at(bytes: &[u8], type_: ValueType) -> Result<(u32, &[u8]), NotWhol
     Ok((size, &bytes[4..]))
 }
 
-/// The type with this number.
-fn type_numbered(number: u8) -> Option<ValueType>
-    ensures { result ≡ type_with number }
-{
-    match number {
-        1 => Some(ValueType::Void),
-        2 => Some(ValueType::Flag),
-        3 => Some(ValueType::Unsigned),
-        4 => Some(ValueType::Words),
-        5 => Some(ValueType::Opaque),
-        _ => None,
-    }
-}
-
 /// The type whose number comes first.
 fn front_type(bytes: &[u8]) -> Result<(ValueType, &[u8]), NotWhole>
-    ensures { Gives (λ x. (x.0, x.1.now)) result (type_at bytes.now) }
+    ensures { Finds (λ x. (x.0, x.1.now)) result (type_at bytes.now) }
 {
     match bytes {
         [] => Err(NotWhole::Unfinished),
-        [number, rest @ ..] => match type_numbered(*number) {
+        [number, rest @ ..] => match ValueType::of_number(*number) {
             Some(type_) => Ok((type_, rest)),
             None => Err(NotWhole::Broken),
         },
@@ -173,21 +154,11 @@ fn is_named(name: &[u8]) -> bool
     }
 }
 
-/// Whether one is less than the other in byte order.
-fn is_before(before: &[u8], name: &[u8]) -> bool
-    ensures { result ≡ is_lt (slice_cmp nat_cmp before.now name.now) }
-{
-    match before.cmp(name) {
-        Ordering::Less => true,
-        Ordering::Equal | Ordering::Greater => false,
-    }
-}
-
 /// Whether the bytes are a name that stands behind another in byte order.
 fn is_behind(before: &[u8], name: &[u8]) -> bool
     ensures { result ≡ is_name_behind before.now name.now }
 {
-    is_named(name) && is_before(before, name)
+    is_named(name) && before.cmp(name).is_lt()
 }
 
 /// The text that the bytes are, where they are UTF-8.
@@ -227,7 +198,7 @@ fn name_at<'a>(
     size: usize,
     before: &[u8],
 ) -> Result<(&'a [u8], &'a [u8]), NotWhole>
-    ensures front { Gives (λ x. (x.0.now, x.1.now)) result
+    ensures front { Finds (λ x. (x.0.now, x.1.now)) result
         (field size (is_name_behind before.now) bytes.now) }
     ensures name { IfOk result (λ x. is_name x.0.now ≡ true) }
 {
@@ -248,7 +219,7 @@ fn content_of(
     type_: ValueType,
 ) -> Result<(ValueView<'_>, &[u8]), NotWhole>
     requires { is_size_of type_ size ≡ true }
-    ensures { Gives (λ x. (lent x.0, x.1.now)) result
+    ensures { Finds (λ x. (lent x.0, x.1.now)) result
         (as_value type_ (field size (is_value_of type_) bytes.now)) }
 {
     if bytes.len() < size {
@@ -264,7 +235,7 @@ fn content_of(
 /// A value of this type behind its length, and what is behind it.
 #[tactic(auto, unfolding(crate::specs::Fronts::value_at))]
 fn value(bytes: &[u8], type_: ValueType) -> Result<(ValueView<'_>, &[u8]), NotWhole>
-    ensures { Gives (λ x. (lent x.0, x.1.now)) result (value_at type_ bytes.now) }
+    ensures { Finds (λ x. (lent x.0, x.1.now)) result (value_at type_ bytes.now) }
 {
     let (size, rest) = value_size_at(bytes, type_)?;
     content_of(rest, size as usize, type_)
@@ -276,7 +247,7 @@ pub(crate) fn attribute<'a>(
     bytes: &'a [u8],
     before: &[u8],
 ) -> Result<(&'a [u8], ValueView<'a>, &'a [u8]), NotWhole>
-    ensures front { Gives (λ x. ((x.0.now, lent x.1), x.2.now)) result
+    ensures front { Finds (λ x. ((x.0.now, lent x.1), x.2.now)) result
         (attribute_at before.now bytes.now) }
     ensures name { IfOk result (λ x. is_name x.0.now ≡ true) }
 {

@@ -3,12 +3,14 @@ ghost use Rattle.up_model.specs.Packet.{IsLegal};
 ghost use Rattle.up_model.specs.Value.{lent, IsLegalValue};
 ghost use Rattle.up_shape.specs.VecPackets.{plain_of};
 
-use crate::{MARK, NotWhole, VERSION, behind_frame, write_frame};
+use crate::{behind_frame, write_frame};
 use std::alloc::Global;
 use std::process::Abort;
 use std::test::Fail;
 use up_base::{AttrName, Bytes};
-use up_model::{MAX_ATTRS, MAX_PACKET, MAX_VALUE, ValueView, packets_stay_legal};
+use up_model::{
+    MARK, MAX_ATTRS, MAX_PACKET, MAX_VALUE, NotWhole, VERSION, ValueView, packets_stay_legal,
+};
 use up_shape::{LocalPacket, VecPacket, VecStore};
 
 /// A packet of these bytes, without attributes.
@@ -36,7 +38,7 @@ fn set_attr(rt: &impl Abort, packet: &mut VecPacket, name: &[u8], value: ValueVi
     }
 }
 
-fn set_words(rt: &impl Abort, packet: &mut VecPacket, name: &[u8], text: &str)
+pub(crate) fn set_words(rt: &impl Abort, packet: &mut VecPacket, name: &[u8], text: &str)
     requires { IsLegal (plain_of packet.old) }
     ensures { IsLegal (plain_of packet.new) }
 {
@@ -128,6 +130,14 @@ pub(crate) const NAMES: [&str; 64] = [
     "g0", "g1", "g2", "g3", "g4", "g5", "g6", "g7", "h0", "h1", "h2", "h3", "h4", "h5", "h6", "h7",
 ];
 
+/// A name of 64 bytes.
+pub(crate) const LONGEST_NAME: [u8; 64] = [0x6e; 64];
+
+/// The text that the bytes are.
+pub(crate) fn text<'a>(rt: &impl Abort, bytes: &'a [u8]) -> &'a str {
+    std::str::from_utf8(bytes).expect(rt, "no text")
+}
+
 /// Gives the packet void attributes of these names, the last one first.
 pub(crate) fn set_all(rt: &impl Abort, packet: &mut VecPacket, names: &[&str])
     requires { IsLegal (plain_of packet.old) }
@@ -173,7 +183,7 @@ fn the_greatest_packet_and_value_are_written(rt: HostRuntime) -> Result<(), Fail
 }
 
 /// What is behind the frame at the front has so many bytes, or this is why there is none.
-fn assert_front(rt: &impl Abort, bytes: &[u8], wanted: Result<usize, NotWhole>) {
+pub(crate) fn assert_front(rt: &impl Abort, bytes: &[u8], wanted: Result<usize, NotWhole>) {
     match behind_frame(bytes) {
         Ok(rest) => assert_eq!(rt; Ok(rest.len()), wanted),
         Err(refused) => assert_eq!(rt; Err(refused), wanted),
@@ -201,35 +211,6 @@ fn each_front_of_a_frame_is_unfinished(rt: HostRuntime) {
     }
 }
 
-#[test]
-fn a_field_is_broken_once_its_bytes_are_there(rt: HostRuntime) {
-    let table: [&[u8]; 18] = [
-        &[0x47],
-        &[0x46, 2],
-        &[0x46, 1, 0, 65],
-        &[0x46, 1, 1, 0],
-        &[0x46, 1, 0, 0, 0, 0x10, 0, 1],
-        &[0x46, 1, 0, 1, 0, 0, 0, 0, 0],
-        &[0x46, 1, 0, 1, 0, 0, 0, 0, 65],
-        &[0x46, 1, 0, 1, 0, 0, 0, 0, 1, 0x20],
-        &[0x46, 1, 0, 1, 0, 0, 0, 0, 1, 0x78, 0],
-        &[0x46, 1, 0, 1, 0, 0, 0, 0, 1, 0x78, 6],
-        &[0x46, 1, 0, 1, 0, 0, 0, 0, 1, 0x78, 1, 0, 0, 0, 1],
-        &[0x46, 1, 0, 1, 0, 0, 0, 0, 1, 0x78, 3, 0, 0, 0, 7],
-        &[0x46, 1, 0, 1, 0, 0, 0, 0, 1, 0x78, 5, 0, 0, 0x10, 1],
-        &[0x46, 1, 0, 1, 0, 0, 0, 0, 1, 0x78, 2, 0, 0, 0, 1, 2],
-        &[0x46, 1, 0, 1, 0, 0, 0, 0, 1, 0x78, 4, 0, 0, 0, 1, 0xff],
-        &[0x46, 1, 0, 2, 0, 0, 0, 0, 1, 0x62, 1, 0, 0, 0, 0, 1, 0x62],
-        &[0x46, 1, 0, 2, 0, 0, 0, 0, 1, 0x62, 1, 0, 0, 0, 0, 1, 0x61],
-        &[
-            0x46, 1, 0, 2, 0, 0, 0, 0, 2, 0x62, 0x62, 1, 0, 0, 0, 0, 1, 0x62,
-        ],
-    ];
-    for bytes in table {
-        assert_front(&rt, bytes, Err(NotWhole::Broken));
-    }
-}
-
 /// The frame of the packet is passed over whole, and a byte behind it is left.
 fn assert_passed(rt: &impl Abort, alloc: Global, packet: &VecPacket)
     requires { IsLegal (plain_of packet.now) }
@@ -248,6 +229,9 @@ fn frames_at_their_limits_are_passed_over(rt: HostRuntime) -> Result<(), Fail> {
     assert_passed(&rt, alloc, &packet);
     let mut packet = fresh(&rt, alloc, b"");
     set_opaque(&rt, &mut packet, b"x", &vec![in alloc; 8; 4096]?);
+    assert_passed(&rt, alloc, &packet);
+    let mut packet = fresh(&rt, alloc, b"");
+    set_words(&rt, &mut packet, &LONGEST_NAME, text(&rt, &[0x74; 4096]));
     assert_passed(&rt, alloc, &packet);
     Ok(())
 }

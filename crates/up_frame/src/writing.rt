@@ -3,16 +3,15 @@ ghost use Rattle.std.specs.Prelude.{◌≡◌, ◌<◌, ◌≤◌, ◌^◌, ◌+
 ghost use Rattle.std.specs.FinMap.{entries, values};
 ghost use Rattle.std.specs.List.{flat_map};
 ghost use Rattle.up_base.specs.Number.{big_endian_bytes};
-ghost use Rattle.up_frame.specs.Spelling.{attribute_bytes, frame_of, head_bytes};
-ghost use Rattle.up_frame.specs.Spelling.{named, sized, typed};
-ghost use Rattle.up_frame.specs.Types.{number_of};
 ghost use Rattle.up_frame.specs.Writing.{AddsPart};
+ghost use Rattle.up_model.specs.FrameSpelling.{attribute_bytes, frame_of, head_bytes};
+ghost use Rattle.up_model.specs.FrameSpelling.{named, sized, typed};
 ghost use Rattle.up_model.specs.Packet.{IsLegal};
 ghost use Rattle.up_model.specs.Value.{lent, IsLegalValue};
+ghost use Rattle.up_model.specs.ValueTypes.{number_of};
 
-use crate::layout::{MARK, VERSION, ValueType};
 use up_base::{AttrName, Bytes, NoMemory};
-use up_model::ValueView;
+use up_model::{MARK, VERSION, ValueType, ValueView};
 use up_shape::LocalPacket;
 
 /// Adds the mark, the version, and how many attributes and bytes there are.

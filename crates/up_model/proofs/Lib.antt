@@ -16,6 +16,17 @@ pub mod EveryKind
 pub mod ExampleChain
 pub mod ExampleTree
 pub mod FedSources
+pub mod FrameAllFields
+pub mod FrameAttributes
+pub mod FrameExamples
+pub mod FrameFields
+pub mod FrameMoreBytes
+pub mod FramePackets
+pub mod FrameRests
+pub mod FrameShorter
+pub mod FrameSteady
+pub mod FrameStreams
+pub mod FrameValues
 pub mod GraphFlows
 pub mod GrownBytes
 pub mod InputsExamples

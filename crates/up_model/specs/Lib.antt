@@ -6,6 +6,9 @@ pub mod DelAttr
 pub mod Delay
 pub mod Ends
 pub mod FaultTests
+pub mod FrameFronts
+pub mod FrameSpelling
+pub mod FrameStreams
 pub mod Inputs
 pub mod KindMeaning
 pub mod Kinds
@@ -22,5 +25,6 @@ pub mod Shares
 pub mod Skip
 pub mod Tallies
 pub mod Value
+pub mod ValueTypes
 pub mod WellFormed
 pub mod Work

@@ -9,6 +9,8 @@ mod event_kind;
 mod fan_out;
 mod faults;
 mod form;
+mod frame_laws;
+mod frame_layout;
 mod graph;
 mod graph_fault;
 mod graph_laws;
@@ -38,6 +40,7 @@ mod tally;
 #[cfg(test)]
 mod tests;
 mod value;
+mod value_type;
 mod verdict;
 mod well_formed;
 
@@ -46,6 +49,11 @@ pub use date_kind::DateKind;
 pub use event_kind::EventKind;
 pub use fan_out::FanOut;
 pub use form::{SinkForm, SourceForm};
+pub use frame_laws::{
+    frames_are_read_back, no_frame_begins_another, what_was_judged_stays, whole_frames_are_all,
+    whole_frames_come_one_by_one,
+};
+pub use frame_layout::{MARK, NotWhole, VERSION};
 pub use graph::Graph;
 pub use graph_fault::GraphFault;
 pub use graph_laws::{
@@ -73,4 +81,5 @@ pub use plain_attrs::PlainAttrs;
 pub use plain_packet::PlainPacket;
 pub use tally::Tally;
 pub use value::{Value, ValueView};
+pub use value_type::ValueType;
 pub use verdict::Verdict;

@@ -20,4 +20,4 @@ slice_bounds-value_of-end c =
 
 pub value_of-requires : goal.value_of-requires
 value_of-requires c =
-    rw (c.of_byte-kind.ensures, c.from-size.ensures, c.read_u16.ensures, c.from-place.ensures) (value_part c.args.run.now c.requires)
+    rw (c.unwrap_or-kind.ensures, c.of_number.ensures, c.from-size.ensures, c.read_u16.ensures, c.from-place.ensures) (value_part c.args.run.now c.requires)

@@ -2,7 +2,7 @@ use Rattle.std.proofs.Common.{◌<◌, drop, refl, sym, ap, ◌∙◌, Some, ari
 use Rattle.std.proofs.lemmas.List.Elements.{All-from_get_or}
 use Rattle.std.proofs.lemmas.Result.{err_from_is_err_and}
 use Rattle.up_frame.proofs.GoingOn.{one_more, none_more, fewer, from_place}
-use Rattle.up_frame.specs.Fronts.{attribute_at}
+use Rattle.up_model.specs.FrameFronts.{attribute_at}
 use Rattle.up_frame.proofs.judging.next_attribute.Goals as goal
 
 pub returns-in_err-name-clause-front : goal.returns-in_err-name-clause-front

@@ -1,11 +1,11 @@
 use Rattle.std.proofs.Common.{◌≡◌, length, ap, sym, subst, Ok, Err, arith}
 use Rattle.std.proofs.lemmas.List.{length-drop}
+use Rattle.up_frame.proofs.FedBytes.{passed_more, passed_all}
 use Rattle.up_frame.proofs.FoundFrames.{are_bytes}
 use Rattle.up_frame.proofs.GoingOn.{from_place}
-use Rattle.up_frame.proofs.ScannedBytes.{passed_more, passed_all}
-use Rattle.up_frame.proofs.Streams.{whole_front}
-use Rattle.up_frame.specs.Fronts.{packet_at}
 use Rattle.up_frame.specs.Judging.{IsJudged, EndsAt}
+use Rattle.up_model.proofs.FrameStreams.{whole_front}
+use Rattle.up_model.specs.FrameFronts.{packet_at}
 use Rattle.up_frame.proofs.judging.rest_start.Goals as goal
 
 pub frames-preserved : goal.frames-preserved

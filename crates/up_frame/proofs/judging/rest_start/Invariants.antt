@@ -1,6 +1,6 @@
 use Rattle.std.proofs.Common.{◌+◌, ◌-◌, ◌≤◌, length}
+use Rattle.up_frame.proofs.FedBytes.{IsPassed}
 use Rattle.up_frame.specs.Judging.{IsJudged, judged_place}
-use Rattle.up_frame.proofs.ScannedBytes.{IsPassed}
 use Rattle.up_frame.proofs.judging.rest_start.Given as goal
 
 abbrev pub invariant-frames : goal.invariant-frames

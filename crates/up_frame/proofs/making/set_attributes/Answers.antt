@@ -2,7 +2,7 @@ use Rattle.std.proofs.Common.{◌≡◌, ℕ, List, ap, ◌∙◌, inr}
 use Rattle.std.specs.FinMap.{insert}
 use Rattle.up_frame.proofs.AttrBytes.{legal_there}
 use Rattle.up_frame.proofs.SetAttributes.{none_set, next_is, not_refused, next_read, in_order, next_set, has_room, all_set}
-use Rattle.up_frame.specs.Fronts.{attribute_at}
+use Rattle.up_model.specs.FrameFronts.{attribute_at}
 use Rattle.up_model.specs.Value.{lent}
 use Rattle.up_model.specs.declared.limits.TheConstants.{MAX_ATTRS}
 use Rattle.up_frame.proofs.making.set_attributes.Goals as goal

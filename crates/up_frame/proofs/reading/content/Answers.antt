@@ -1,8 +1,8 @@
 use Rattle.std.proofs.Common.{arith}
 use Rattle.up_frame.proofs.FoundFrames.{are_bytes}
 use Rattle.up_frame.proofs.ReadAttributes.{content_is}
-use Rattle.up_frame.proofs.Shorter.{field_size}
-use Rattle.up_frame.specs.Fronts.{is_any}
+use Rattle.up_model.proofs.FrameShorter.{field_size}
+use Rattle.up_model.specs.FrameFronts.{is_any}
 use Rattle.up_frame.proofs.reading.content.Goals as goal
 
 pub returns : goal.returns

@@ -3,8 +3,8 @@ use Rattle.std.specs.FinMap.{entries, len-entries}
 use Rattle.std.specs.List.{flat_map}
 use Rattle.up_frame.proofs.AttrBytes.{all_there, legal_there, one_more, part_there}
 use Rattle.up_frame.proofs.Parts.{refused}
-use Rattle.up_frame.specs.Spelling.{attribute_bytes}
 use Rattle.up_model.proofs.AttrLists.{Attr}
+use Rattle.up_model.specs.FrameSpelling.{attribute_bytes}
 use Rattle.up_model.specs.Value.{lent}
 use Rattle.up_frame.proofs.writing.put_attributes.Goals as goal
 

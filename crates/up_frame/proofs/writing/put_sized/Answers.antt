@@ -1,7 +1,7 @@
 use Rattle.std.proofs.Common.{◌∷◌, length}
 use Rattle.up_base.specs.Number.{big_endian_bytes}
 use Rattle.up_frame.proofs.Parts.{refused, none_added, second_refused}
-use Rattle.up_frame.specs.Types.{number_of}
+use Rattle.up_model.specs.ValueTypes.{number_of}
 use Rattle.up_frame.proofs.writing.put_sized.Goals as goal
 
 pub returns-in_err-put_front-clause-part : goal.returns-in_err-put_front-clause-part

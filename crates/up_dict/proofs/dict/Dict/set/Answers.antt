@@ -1,10 +1,10 @@
 use Rattle.std.proofs.Common.{◌≤◌, length, sym, arith, rules, refl}
 use Rattle.up_model.specs.Value.{lent}
+use Rattle.up_model.specs.ValueTypes.{value_bytes}
 use Rattle.up_model.specs.declared.limits.TheConstants.{MAX_VALUE}
 use Rattle.up_dict.proofs.Changed.{replaces, inserts}
 use Rattle.up_dict.proofs.Found.{found_within, found_first, found_size, found_there, missing_within, missing_there}
 use Rattle.up_dict.proofs.Refused.{taken_there, taken_new, refused_new}
-use Rattle.up_dict.specs.Spelling.{value_bytes}
 use Rattle.up_dict.proofs.dict.Dict.set.Goals as goal
 
 pub rest_from-requires : goal.rest_from-requires

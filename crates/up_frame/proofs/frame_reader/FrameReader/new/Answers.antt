@@ -1,7 +1,7 @@
 use Rattle.std.proofs.Common.{[], refl, sym, ap, ◌∙◌}
 use Rattle.std.proofs.lemmas.List.Elements.{All-nil}
-use Rattle.up_frame.proofs.ScannedBytes.{nothing_unfinished}
-use Rattle.up_frame.specs.Fronts.{packet_at}
+use Rattle.up_model.proofs.FrameStreams.{nothing_at_end}
+use Rattle.up_model.specs.FrameFronts.{packet_at}
 use Rattle.up_model.specs.Packet.{IsLegal}
 use Rattle.up_frame.proofs.frame_reader.FrameReader.new.Goals as goal
 
@@ -11,5 +11,5 @@ returns-clause-stands c = record {
   waiting = [];
   waits = record { legal = All-nil IsLegal; frames = refl };
   whole = refl;
-  keeps = (sym c.new.ensures.items, (ap packet_at c.new.ensures.items ∙ nothing_unfinished, tt));
+  keeps = (sym c.new.ensures.items, (ap packet_at c.new.ensures.items ∙ nothing_at_end, tt));
 }

@@ -1,0 +1,16 @@
+// The fixed numbers of a frame: docs/FRAMES.md has the whole format.
+
+/// The first byte of each frame.
+pub const MARK: u8 = 0x46;
+
+/// The second byte of each frame, which tells by which rules the rest is spelled.
+pub const VERSION: u8 = 1;
+
+/// Why no whole frame stands at the front of some bytes.
+#[derive(Clone, Copy, Debug, PartialEq, Eq)]
+pub enum NotWhole {
+    /// A field whose bytes are all there breaks its rule.
+    Broken,
+    /// The bytes end before the frame does, and no field is broken.
+    Unfinished,
+}
