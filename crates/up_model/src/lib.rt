@@ -2,6 +2,8 @@
 #![tactic(auto)]
 
 #[cfg(test)]
+mod attr_kind_tests;
+#[cfg(test)]
 mod attr_tests;
 mod catch_set;
 mod date_kind;
