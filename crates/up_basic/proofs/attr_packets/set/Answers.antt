@@ -1,7 +1,6 @@
-use Rattle.std.proofs.Common.{◌≡◌, ◌<◌, inr, true, sym, subst, arith}
+use Rattle.std.proofs.Common.{◌≡◌, ◌<◌, inr, true, arith}
 use Rattle.std.specs.FinMap.{len}
 use Rattle.up_base.specs.Name.{is_name}
-use Rattle.up_model.specs.Packet.{IsLegal}
 use Rattle.up_model.specs.Value.{lent, IsLegalValue}
 use Rattle.up_model.specs.declared.limits.TheConstants.{MAX_ATTRS}
 use Rattle.up_shape.specs.VecPackets.{plain_of}
