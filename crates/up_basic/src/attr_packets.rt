@@ -78,7 +78,7 @@ fn set(rt: &impl Abort, packet: &mut VecPacket, name: &AttrName, value: &Value)
     packets_stay_legal();
     assert!(rt; !name.bytes().is_empty());
     assert!(rt; packet.attr_count() < MAX_ATTRS);
-    assert_eq!(rt; packet.set_attr(name, value.view()), Ok(()));
+    packet.set_attr(name, value.view()).expect(rt, "no memory");
 }
 
 /// Gives the packet one attribute more, by words of a table.
