@@ -9,6 +9,7 @@ pub mod CuttingExamples
 pub mod DelAttr
 pub mod DelAttrExamples
 pub mod Delay
+pub mod DelayExamples
 pub mod Ends
 pub mod EndsExamples
 pub mod EveryKind
@@ -23,8 +24,10 @@ pub mod Lawful
 pub mod LegalFlows
 pub mod Legality
 pub mod MatchAttr
+pub mod MatchAttrExamples
 pub mod MeaningExamples
 pub mod Members
+pub mod MovedDates
 pub mod NullExamples
 pub mod OptionExamples
 pub mod OutcomeExamples
@@ -38,6 +41,7 @@ pub mod PlainKinds
 pub mod PlainLegal
 pub mod PlainSteps
 pub mod SetAttr
+pub mod SetAttrExamples
 pub mod Shares
 pub mod SharesExamples
 pub mod Skip

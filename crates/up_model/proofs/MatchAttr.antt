@@ -5,12 +5,12 @@ use Rattle.std.specs.Prelude.{unwrap_or}
 use Rattle.std.specs.Cmp.Derive.{both_true}
 use Rattle.std.specs.Int.RustNames.{unsigned_abs}
 use Rattle.up_model.proofs.Lawful.{IsLawful, both_are, by_packets, not_some, of_some, stands_for_itself}
-use Rattle.up_model.proofs.Packetwise.{KeepsLegal}
+use Rattle.up_model.proofs.Packetwise.{KeepsLegal, IsCutOf}
 use Rattle.up_model.specs.Attrs.{unsigned_at}
 use Rattle.up_model.specs.KindMeaning.{Setting, admits}
 use Rattle.up_model.specs.MatchAttr.{AreBounds, lies_within, match_attr_step, match_attr_setting}
 use Rattle.up_model.specs.OptionValues.{IsSet, value_of}
-use Rattle.up_model.specs.Packet.{IsLegal}
+use Rattle.up_model.specs.Packet.{PlainPacket, IsLegal}
 use Rattle.up_model.specs.Packetwise.{IfPasses}
 use Rattle.up_model.specs.declared.fan_out.FanOut.TheVariants as fans
 use Rattle.up_model.specs.declared.kind.Kind.TheVariants.{MatchAttr}
@@ -23,6 +23,14 @@ match_attr_is_legal attr low high packet legal = by_test (lies_within low high (
   where
     by_test : (lies : Bool) → IfPasses (if lies then Passes packet 0 else Drops) IsLegal
     by_test true = legal
+    by_test false = tt
+
+-- a packet that passes keeps its bytes
+pub match_attr_cuts : (attr : List ℕ) (low high : ℕ) (packet : PlainPacket) → IsCutOf packet (match_attr_step attr low high packet)
+match_attr_cuts attr low high packet = by_test (lies_within low high (unsigned_at attr packet.attrs))
+  where
+    by_test : (lies : Bool) → IsCutOf packet (if lies then Passes packet 0 else Drops)
+    by_test true = omega arith
     by_test false = tt
 
 module _ (attr : List ℕ) (low high : ℕ) where

@@ -6,10 +6,10 @@ use Rattle.std.specs.Cmp.Lexicographic.{nat_list_cmp_total}
 use Rattle.std.specs.FinMap.{insert, len, contains_key, len-insert}
 use Rattle.up_model.proofs.Lawful.{IsLawful, by_packets, no_options_kept, stands_for_itself}
 use Rattle.up_model.proofs.Legality.{with_attr}
-use Rattle.up_model.proofs.Packetwise.{KeepsLegal}
+use Rattle.up_model.proofs.Packetwise.{KeepsLegal, IsCutOf}
 use Rattle.up_model.specs.Attrs.{Attrs}
 use Rattle.up_model.specs.KindMeaning.{no_options}
-use Rattle.up_model.specs.Packet.{IsLegal}
+use Rattle.up_model.specs.Packet.{PlainPacket, IsLegal}
 use Rattle.up_model.specs.Packetwise.{IfPasses}
 use Rattle.up_model.specs.SetAttr.{IsAttribute, setattr_step}
 use Rattle.up_model.specs.declared.fan_out.FanOut.TheVariants as fans
@@ -34,6 +34,14 @@ setattr_is_legal attr value within packet legal = by_test (nat_le (len attrs) MA
         let is = len-insert nat_list_cmp_total packet.attrs attr value in
         with_attr packet legal attr value within.0 within.1 (had_room (contains_key packet.attrs attr) (len packet.attrs) (len attrs) is (leb-true (len attrs) MAX_ATTRS few))
     by_test false few = tt
+
+-- a packet that passes keeps its bytes
+pub setattr_cuts : (attr : List ℕ) (value : Value) (packet : PlainPacket) → IsCutOf packet (setattr_step attr value packet)
+setattr_cuts attr value packet = by_test (nat_le (len (insert packet.attrs attr value)) MAX_ATTRS)
+  where
+    by_test : (few : Bool) → IsCutOf packet (if few then Passes (record packet { attrs = insert packet.attrs attr value }) 0 else Drops)
+    by_test true = omega arith
+    by_test false = tt
 
 pub setattr_is_lawful : (attr : List ℕ) (value : Value) → IsLawful (SetAttr attr value)
 setattr_is_lawful attr value = record {

@@ -1,16 +1,18 @@
 -- The kind `delay`: moves the dates of each packet.
-use Rattle.std.specs.Prelude.{ℕ, ℤ, pos, negsuc, ◌-◌, ◌^◌, ◌+ℤ◌, ◌≤ℤ◌, nat_lt, List, Option, Some, None, if◌then◌else◌}
+use Rattle.std.specs.Prelude.{ℕ, ℤ, pos, negsuc, ◌-◌, ◌^◌, ◌+ℤ◌, ◌≤ℤ◌, nat_lt, List, Option, Some, None, option_map, if◌then◌else◌}
 use Rattle.std.specs.FinMap.{insert, remove}
 use Rattle.up_model.specs.Attrs.{Attrs, unsigned_at}
 use Rattle.up_model.specs.Dates.{date_name}
 use Rattle.up_model.specs.KindMeaning.{KindMeaning, Setting}
+use Rattle.up_model.specs.Packet.{PlainPacket}
 use Rattle.up_model.specs.Packetwise.{Step, packetwise}
 use Rattle.up_model.specs.declared.date_kind.DateKind.TheVariants.{Sys, Prog, Orig}
 use Rattle.up_model.specs.declared.fan_out.FanOut.TheVariants as fans
 use Rattle.up_model.specs.declared.kind.Kind.TheVariants.{Delay}
 use Rattle.up_model.specs.declared.opt.Opt.{Opt}
 use Rattle.up_model.specs.declared.opt.Opt.TheVariants.{Mtu, Align, Offset, Low, High, By, Sync}
-use Rattle.up_model.specs.declared.value.Value.TheVariants.{Unsigned}
+use Rattle.up_model.specs.declared.value.Value.{Value}
+use Rattle.up_model.specs.declared.value.Value.TheVariants.{Void, Flag, Unsigned, Words, Opaque}
 use Rattle.up_model.specs.declared.verdict.Verdict.TheVariants.{Passes}
 
 -- by how much dates can be moved, down and up: -2^63 and 2^63 - 1
@@ -46,9 +48,22 @@ abbrev pub delayed : ℤ → Attrs → Attrs
 delayed by attrs =
     moved by (date_name Orig) (moved by (date_name Prog) (moved by (date_name Sys) attrs))
 
--- each packet with its dates moved
+-- what stands under a date's name, moved: a number becomes the sum, or goes; all else stays
+abbrev pub moved_value : ℤ → Option Value → Option Value
+moved_value by None = None
+moved_value by (Some Void) = Some Void
+moved_value by (Some (Flag flag)) = Some (Flag flag)
+moved_value by (Some (Unsigned date)) = option_map Unsigned (dated (pos date +ℤ by))
+moved_value by (Some (Words text)) = Some (Words text)
+moved_value by (Some (Opaque bytes)) = Some (Opaque bytes)
+
+-- the packet with its dates moved
+abbrev pub delayed_packet : ℤ → PlainPacket → PlainPacket
+delayed_packet by packet = record packet { attrs = delayed by packet.attrs }
+
+-- each packet is put out so
 abbrev pub delay_step : ℤ → Step
-delay_step by packet = Passes (record packet { attrs = delayed by packet.attrs }) 0
+delay_step by packet = Passes (delayed_packet by packet) 0
 
 abbrev pub delay_setting : ℤ → Opt → Option Setting
 delay_setting by By = Some (record {

@@ -3,11 +3,12 @@ mod tables;
 use self::tables::{FAULTLESS, FAULTY, LAST, Row};
 use crate::{
     CatchSet, DEFAULT_QUEUE, FanOut, Graph, GraphFault, Kind, Pipe, PipeList, SinkForm, SourceForm,
+    Value,
 };
 use std::alloc::Global;
 use std::string::String;
 use std::test::Fail;
-use up_base::{AttrName, PipeName, Text, WorkerName};
+use up_base::{AttrName, Bytes, PipeName, Text, WorkerName};
 
 /// What a pipe of a test does.
 #[derive(Clone, Copy, Debug)]
@@ -285,6 +286,52 @@ fn blocks_limits_and_counts_have_bounds(rt: HostRuntime) -> Result<(), Fail> {
     Ok(())
 }
 
+/// Sets `key` to this value.
+fn set_to(value: Value) -> Result<Kind, Fail> {
+    Ok(Kind::SetAttr {
+        attr: AttrName::read(b"key")?,
+        value,
+    })
+}
+
+#[test]
+fn a_value_that_is_set_has_at_most_4096_bytes(rt: HostRuntime) -> Result<(), Fail> {
+    let alloc = rt.alloc();
+    for (count, wanted) in [(0, true), (4_096, true), (4_097, false)] {
+        let text = letters(alloc, count)?;
+        let opaque = Value::Opaque(Bytes::from_slice(alloc, text.as_bytes())?);
+        assert_eq!(rt; set_to(opaque)?.is_within_bounds(), wanted);
+        let words = Value::Words(Text::from_str(alloc, text.as_str())?);
+        assert_eq!(rt; set_to(words)?.is_within_bounds(), wanted);
+    }
+    for value in [Value::Void, Value::Flag(true), Value::Unsigned(u64::MAX)] {
+        assert!(rt; set_to(value)?.is_within_bounds());
+    }
+    Ok(())
+}
+
+/// Matches `key` from the one to the other.
+fn match_from(low: u64, high: u64) -> Result<Kind, Fail> {
+    Ok(Kind::MatchAttr {
+        attr: AttrName::read(b"key")?,
+        low,
+        high,
+    })
+}
+
+#[test]
+fn numbers_are_matched_from_the_least_up_and_dates_moved_by_any_shift(
+    rt: HostRuntime,
+) -> Result<(), Fail> {
+    assert!(rt; match_from(7, 7)?.is_within_bounds());
+    assert!(rt; match_from(0, u64::MAX)?.is_within_bounds());
+    assert!(rt; !match_from(8, 7)?.is_within_bounds());
+    for by in [i64::MIN, 0, i64::MAX] {
+        assert!(rt; Kind::Delay { by }.is_within_bounds());
+    }
+    Ok(())
+}
+
 /// Whether the kind has this path and this way to feed consumers.
 fn has(kind: &Kind, path: Option<&'static str>, fan_out: FanOut) -> bool {
     kind.path().map(Text::as_str) == path && kind.fan_out() == fan_out
@@ -306,7 +353,10 @@ fn any_other_kind_has_no_path(rt: HostRuntime) -> Result<(), Fail> {
     assert!(rt; has(&Kind::Null, None, FanOut::None));
     assert!(rt; has(&Kind::Dup, None, FanOut::All));
     assert!(rt; has(&Kind::Skip { bytes: 1 }, None, FanOut::One));
+    assert!(rt; has(&set_to(Value::Void)?, None, FanOut::One));
     assert!(rt; has(&Kind::DelAttr { attr }, None, FanOut::One));
+    assert!(rt; has(&match_from(1, 2)?, None, FanOut::One));
+    assert!(rt; has(&Kind::Delay { by: 1 }, None, FanOut::One));
     for kind in [Kind::Idem, Kind::Null, Kind::Dup] {
         assert!(rt; !kind.is_source());
     }

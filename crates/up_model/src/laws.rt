@@ -1,8 +1,12 @@
 // Laws of the definitions. A law is the contract of a function that does nothing.
-ghost use Rattle.std.specs.Prelude.{◌≡◌, ◌<◌, ◌+◌, ◌++◌, [], ℕ, ◌≤◌, ℤ, true, Option, List, All, length, slice_get, Some};
+ghost use Rattle.std.specs.Prelude.{◌≡◌, ◌≢◌, ◌<◌, ◌+◌, ◌++◌, [], ℕ, ◌≤◌, ℤ, true, Option, List, All, length, map, slice_get, Some};
+ghost use Rattle.std.specs.FinMap.{get};
 ghost use Rattle.up_base.specs.Lists.{IsPrefix};
+ghost use Rattle.up_model.specs.Attrs.{Attrs};
 ghost use Rattle.up_model.specs.Chain.{IsChain};
 ghost use Rattle.up_model.specs.Cutting.{blocks};
+ghost use Rattle.up_model.specs.Dates.{date_name};
+ghost use Rattle.up_model.specs.Delay.{delayed, delayed_packet, moved_value};
 ghost use Rattle.up_model.specs.KindMeaning.{Setting, admits};
 ghost use Rattle.up_model.specs.Kinds.{IsWithinBounds, output_of, settled_output, settled_work, work_of, setting_of, with_option, share_of, module_kind};
 ghost use Rattle.up_model.specs.Meaning.{sink_bytes};
@@ -11,6 +15,7 @@ ghost use Rattle.up_model.specs.Outcomes.{carried_as};
 ghost use Rattle.up_model.specs.Packet.{Flow, IsLegal, joined};
 ghost use Rattle.up_model.specs.Tallies.{IsAtMost, nothing, plus, added, stopped};
 ghost use Rattle.up_model.specs.Work.{no_work, Counts, CutsTheRest};
+ghost use Rattle.up_model.specs.declared.date_kind.DateKind.{DateKind as TheDate};
 ghost use Rattle.up_model.specs.declared.kind.Kind.{Kind as TheKind};
 ghost use Rattle.up_model.specs.declared.kind.Kind.TheVariants as kinds;
 ghost use Rattle.up_model.specs.declared.limits.TheConstants.{MAX_PID};
@@ -18,6 +23,7 @@ ghost use Rattle.up_model.specs.declared.opt.Opt.{Opt as TheOpt};
 ghost use Rattle.up_model.specs.declared.outcome.Outcome.{Outcome as TheOutcome};
 ghost use Rattle.up_model.specs.declared.pipe.Pipe.{Pipe as ThePipe};
 ghost use Rattle.up_model.specs.declared.tally.Tally.{Tally as TheTally};
+ghost use Rattle.up_model.specs.declared.value.Value.{Value as TheValue};
 
 /// The bytes of a raw source are those of its blocks, one after the other.
 pub fn blocks_rejoin()
@@ -62,11 +68,27 @@ pub fn sums_count_packets()
         → Counts (work_of kind taken) taken }
 {}
 
-/// What `null` and `skip` cut and what they put out are the bytes that they took.
+/// What `null`, `skip`, `setattr` and `match_attr` cut and what they put out are the bytes that they took.
 pub fn cut_is_the_rest()
     ensures null { (taken : Flow) → CutsTheRest (work_of kinds.Null taken) taken }
     ensures skip { (bytes : ℕ) (taken : Flow)
         → CutsTheRest (work_of (kinds.Skip bytes) taken) taken }
+    ensures setattr { (attr : List ℕ) (value : TheValue) (taken : Flow)
+        → CutsTheRest (work_of (kinds.SetAttr attr value) taken) taken }
+    ensures match_attr { (attr : List ℕ) (low high : ℕ) (taken : Flow)
+        → CutsTheRest (work_of (kinds.MatchAttr attr low high) taken) taken }
+{}
+
+/// `delay` puts out every packet, and changes nothing of it but its three dates. One that is a number becomes its sum with the
+/// shift, or goes where that is no number of 64 bits; one of another type stays, and so does every other attribute.
+pub fn dates_are_moved()
+    ensures all { (by : ℤ) (taken : Flow)
+        → output_of (kinds.Delay by) taken ≡ map (delayed_packet by) taken }
+    ensures dates { (by : ℤ) (attrs : Attrs) (which : TheDate) →
+        get (delayed by attrs) (date_name which) ≡ moved_value by (get attrs (date_name which)) }
+    ensures others { (by : ℤ) (attrs : Attrs) (name : List ℕ)
+        → ((which : TheDate) → name ≢ date_name which)
+        → get (delayed by attrs) name ≡ get attrs name }
 {}
 
 /// A kind within its bounds makes legal packets of legal ones.

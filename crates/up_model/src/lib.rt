@@ -2,6 +2,8 @@
 #![tactic(auto)]
 
 #[cfg(test)]
+mod attr_kind_tests;
+#[cfg(test)]
 mod attr_tests;
 mod catch_set;
 mod date_kind;
@@ -55,9 +57,9 @@ pub use graph_laws::{
 };
 pub use kind::Kind;
 pub use laws::{
-    blocks_rejoin, carried_is_legal, chain_copies, cut_is_the_rest, kept_sums_stop,
-    options_are_set, outputs_are_legal, settled_is_prefix, settled_sums_grow, shares_are_lawful,
-    starts_with_nothing, sums_add_up, sums_count_packets,
+    blocks_rejoin, carried_is_legal, chain_copies, cut_is_the_rest, dates_are_moved,
+    kept_sums_stop, options_are_set, outputs_are_legal, settled_is_prefix, settled_sums_grow,
+    shares_are_lawful, starts_with_nothing, sums_add_up, sums_count_packets,
 };
 pub use limits::{
     DEFAULT_BLOCK, DEFAULT_QUEUE, MAX_ATTRS, MAX_BLOCK, MAX_GRAPH, MAX_LIMIT, MAX_PACKET, MAX_PATH,

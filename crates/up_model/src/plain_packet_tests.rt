@@ -11,7 +11,7 @@ use up_base::{AttrName, Bytes, Text};
 
 /// A packet without attributes.
 #[tactic(auto, using(crate::proofs::Packets::plain_is_legal))]
-fn bare(alloc: Global, bytes: &[u8]) -> Result<PlainPacket, Fail>
+pub(crate) fn bare(alloc: Global, bytes: &[u8]) -> Result<PlainPacket, Fail>
     requires { length bytes.now ≤ 1048576 }
     ensures { IfOk result IsLegal }
 {
@@ -22,19 +22,25 @@ fn bare(alloc: Global, bytes: &[u8]) -> Result<PlainPacket, Fail>
 }
 
 /// Gives the packet this attribute.
-fn set(rt: &impl Abort, packet: &mut PlainPacket, name: &[u8], number: u64) -> Result<(), Fail>
+pub(crate) fn set(
+    rt: &impl Abort,
+    packet: &mut PlainPacket,
+    name: &[u8],
+    value: Value,
+) -> Result<(), Fail>
     requires { IsLegal packet.old }
     ensures { OnOk result (IsLegal packet.new) }
 {
     let name = AttrName::read(name)?;
     assert!(rt; !name.bytes().is_empty());
+    assert!(rt; value.is_legal());
     assert!(rt; packet.attrs.len() < 64);
-    packet.attrs.set(name, Value::Unsigned(number))?;
+    packet.attrs.set(name, value)?;
     Ok(())
 }
 
 /// Adds a legal packet to a flow of legal ones.
-fn put(flow: &mut PacketList, packet: PlainPacket) -> Result<(), Fail>
+pub(crate) fn put(flow: &mut PacketList, packet: PlainPacket) -> Result<(), Fail>
     requires flow { All IsLegal flow.old }
     requires packet { IsLegal packet }
     ensures { OnOk result (All IsLegal flow.new) }
@@ -49,8 +55,8 @@ fn delattr_takes_one_attribute_off_each_packet(rt: HostRuntime) -> Result<(), Fa
     let pid = AttrName::read(b"pid")?;
     let rate = AttrName::read(b"rate")?;
     let mut packet = bare(alloc, b"ab")?;
-    set(&rt, &mut packet, b"pid", 7)?;
-    set(&rt, &mut packet, b"rate", 25)?;
+    set(&rt, &mut packet, b"pid", Value::Unsigned(7))?;
+    set(&rt, &mut packet, b"rate", Value::Unsigned(25))?;
     let mut flow = PacketList::new(alloc);
     put(&mut flow, packet)?;
     put(&mut flow, bare(alloc, b"c")?)?;
@@ -71,7 +77,7 @@ fn delattr_takes_one_attribute_off_each_packet(rt: HostRuntime) -> Result<(), Fa
 }
 
 /// The attribute has the wanted value.
-fn assert_attr(
+pub(crate) fn assert_attr(
     rt: &impl Abort,
     attrs: &PlainAttrs,
     name: &[u8],

@@ -1,11 +1,21 @@
+use Rattle.up_model.proofs.MatchAttr.{match_attr_cuts}
 use Rattle.up_model.proofs.Packetwise.{work_cuts}
+use Rattle.up_model.proofs.SetAttr.{setattr_cuts}
 use Rattle.up_model.proofs.Skip.{skip_cuts}
+use Rattle.up_model.specs.MatchAttr.{match_attr_step}
 use Rattle.up_model.specs.Packetwise.{drops}
+use Rattle.up_model.specs.SetAttr.{setattr_step}
 use Rattle.up_model.specs.Skip.{skip_step}
 use Rattle.up_model.proofs.laws.cut_is_the_rest.Goals as goal
 
 pub returns-clause-null : goal.returns-clause-null
 returns-clause-null c taken = work_cuts drops (λ packet. tt) taken
+
+pub returns-clause-setattr : goal.returns-clause-setattr
+returns-clause-setattr c attr value taken = work_cuts (setattr_step attr value) (setattr_cuts attr value) taken
+
+pub returns-clause-match_attr : goal.returns-clause-match_attr
+returns-clause-match_attr c attr low high taken = work_cuts (match_attr_step attr low high) (match_attr_cuts attr low high) taken
 
 pub returns-clause-skip : goal.returns-clause-skip
 returns-clause-skip c bytes taken = work_cuts (skip_step bytes) (skip_cuts bytes) taken
