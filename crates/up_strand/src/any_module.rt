@@ -3,12 +3,13 @@ ghost use Rattle.up_model.specs.Kinds.{IsWithinBounds};
 ghost use Rattle.up_model.specs.declared.kind.Kind.TheVariants as kinds;
 ghost use Rattle.up_model.specs.declared.limits.TheConstants.{MAX_PACKET};
 ghost use Rattle.up_strand.specs.AnyModule.{any_kind, AnyStands, any_within, has_module};
+ghost use Rattle.up_strand.specs.Values.{value_of_kind};
 ghost use Rattle.up_strand.specs.declared.any_module.AnyModule.TheVariants as modules;
 
 use up_base::NoMemory;
 use up_basic::{DelAttr, DupPipe, Idem, NullPipe};
 use up_cut::Skip;
-use up_model::{Kind, Opt};
+use up_model::{Kind, Opt, Value};
 use up_shape::{Command, ControlRefused, LocalPacket, Module, Outbox, Reply};
 
 /// The module of some kind.
@@ -22,9 +23,11 @@ pub enum AnyModule {
 }
 
 impl AnyModule {
-    /// The module of the kind, which was fed nothing; a source and a sink have none.
-    pub fn of<P: LocalPacket>(kind: &Kind) -> Option<AnyModule>
+    /// The module of the kind, which owns this value and was fed nothing; a source and a sink have
+    /// none.
+    pub fn of<P: LocalPacket>(kind: &Kind, value: Option<Value>) -> Option<AnyModule>
         requires within { IsWithinBounds kind.now }
+        requires value { value ≡ value_of_kind kind.now }
         ensures there { is_some result ≡ has_module kind.now }
         ensures kind { IfSome result (λ m. any_kind m ≡ kind.now) }
         ensures fed_nothing { IfSome result (λ m. AnyStands m []) }

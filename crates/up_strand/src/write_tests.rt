@@ -1,5 +1,6 @@
 use crate::any_module::AnyModule;
 use crate::sink_packet::write_packet;
+use crate::values::value_of;
 use std::process::Abort;
 use std::test::Fail;
 use up_base::{AttrName, Refusal};
@@ -72,7 +73,8 @@ fn a_module_has_the_options_of_its_kind(rt: HostRuntime) -> Result<(), Fail> {
         (Kind::Skip { bytes: 1_048_576 }, Some(1_048_576)),
         (Kind::DelAttr { attr }, None),
     ] {
-        let m = AnyModule::of::<VecPacket>(&kind).expect(&rt, "no module");
+        let value = value_of(rt.alloc(), &kind)?;
+        let m = AnyModule::of::<VecPacket>(&kind, value).expect(&rt, "no module");
         assert_eq!(rt; offset_of(&rt, m, s), offset);
     }
     Ok(())
