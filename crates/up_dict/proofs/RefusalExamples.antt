@@ -1,12 +1,10 @@
--- Worked examples of refusals and of dates, computed.
+-- Worked examples of refusals, computed.
 use Rattle.std.proofs.Common.{◌≡◌, ℕ, List, [], ◌∷◌, true, false, replicate, Some, None, refl}
 use Rattle.std.specs.Prelude.{codes}
 use Rattle.std.specs.FinMap.{contains_key, len}
 use Rattle.up_model.specs.Attrs.{Attrs}
-use Rattle.up_model.specs.declared.value.Value.TheVariants.{Flag, Unsigned, Words, Opaque}
-use Rattle.up_dict.specs.Dates.{date_name, date_of}
+use Rattle.up_model.specs.declared.value.Value.TheVariants.{Unsigned, Words, Opaque}
 use Rattle.up_dict.specs.Refusal.{refusal_of}
-use Rattle.up_dict.specs.declared.date_kind.DateKind.TheVariants.{Sys}
 use Rattle.up_dict.specs.declared.set_refused.SetRefused.TheVariants.{TooLong, TooMany}
 
 module _ (held : Attrs) (name : List ℕ) where
@@ -26,11 +24,3 @@ module _ (held : Attrs) (name : List ℕ) where
   -- nor is a name that is there
   pub there : contains_key held name ≡ true → refusal_of held name (Unsigned 7) ≡ None
   there held = rw held refl
-
-pub name_of_a_date : date_name Sys ≡ 100 ∷ 97 ∷ 116 ∷ 101 ∷ 46 ∷ 115 ∷ 121 ∷ 115 ∷ []
-name_of_a_date = refl
-
-pub dates :
-    (date_of (Some (Unsigned 27000000)) ≡ Some 27000000) × (date_of (Some (Words (codes "7"))) ≡ None)
-    × (date_of (Some (Flag true)) ≡ None) × (date_of None ≡ None)
-dates = (refl, refl, refl, refl)

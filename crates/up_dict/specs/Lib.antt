@@ -1,4 +1,3 @@
-pub mod Dates
 pub mod Edits
 pub mod Held
 pub mod Places

@@ -1,9 +1,10 @@
 // The attributes of a packet, in one run of bytes.
 ghost use Rattle.std.specs.Prelude.{◌≡◌, ◌<◌, None, Some, slice_get, IfOk, OnOk, OnErr, MatchOption};
 ghost use Rattle.std.specs.FinMap as map;
-ghost use Rattle.up_dict.specs.Dates.{date_name, date_of};
 ghost use Rattle.up_dict.specs.Held.{AreLegal};
 ghost use Rattle.up_dict.specs.Refusal.{Answers, refusal_of};
+ghost use Rattle.up_model.specs.Attrs.{unsigned_at};
+ghost use Rattle.up_model.specs.Dates.{date_name};
 ghost use Rattle.up_model.specs.Value.{lent};
 
 use crate::edit::{cut, put};
@@ -127,7 +128,7 @@ impl Dict {
 
     /// The number of the date. `None` where its attribute isn't there, or its value is no number.
     pub fn date(&self, which: DateKind) -> Option<u64>
-        ensures { result ≡ date_of (map.get self.now (date_name which)) }
+        ensures { result ≡ unsigned_at (date_name which) self.now }
     {
         match self.get(&AttrName::of(which.name())) {
             Some(ValueView::Unsigned(number)) => Some(number),

@@ -2,7 +2,6 @@
 //! copy of bytes, and which takes no memory before its first attribute.
 #![tactic(auto)]
 
-mod date_kind;
 mod dict;
 mod edit;
 mod find;
@@ -16,7 +15,7 @@ mod spell;
 mod tests;
 mod value_type;
 
-pub use date_kind::DateKind;
 pub use dict::Dict;
 pub use laws::{attributes_read_back, what_has_room_is_taken};
 pub use set_refused::SetRefused;
+pub use up_model::DateKind;

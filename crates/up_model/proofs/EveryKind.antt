@@ -1,14 +1,17 @@
 -- Every kind keeps the laws: one row a kind.
 use Rattle.std.proofs.Common.{refl}
 use Rattle.up_model.proofs.DelAttr.{delattr_is_lawful}
+use Rattle.up_model.proofs.Delay.{delay_is_lawful}
 use Rattle.up_model.proofs.Ends.{source_is_lawful, sink_is_lawful}
 use Rattle.up_model.proofs.Lawful.{IsLawful, by_packets, no_options_kept, stands_for_itself}
+use Rattle.up_model.proofs.MatchAttr.{match_attr_is_lawful}
+use Rattle.up_model.proofs.SetAttr.{setattr_is_lawful}
 use Rattle.up_model.proofs.Skip.{skip_is_lawful}
 use Rattle.up_model.specs.KindMeaning.{no_options}
 use Rattle.up_model.specs.Packetwise.{passes_on, drops}
 use Rattle.up_model.specs.declared.fan_out.FanOut.TheVariants as fans
 use Rattle.up_model.specs.declared.kind.Kind.{Kind}
-use Rattle.up_model.specs.declared.kind.Kind.TheVariants.{Source, Sink, Idem, Null, Dup, Skip, DelAttr}
+use Rattle.up_model.specs.declared.kind.Kind.TheVariants.{Source, Sink, Idem, Null, Dup, Skip, SetAttr, DelAttr, MatchAttr, Delay}
 
 idem_is_lawful : IsLawful Idem
 idem_is_lawful = record {
@@ -38,4 +41,7 @@ lawful Idem = idem_is_lawful
 lawful Null = null_is_lawful
 lawful Dup = dup_is_lawful
 lawful (Skip bytes) = skip_is_lawful bytes
+lawful (SetAttr attr value) = setattr_is_lawful attr value
 lawful (DelAttr attr) = delattr_is_lawful attr
+lawful (MatchAttr attr low high) = match_attr_is_lawful attr low high
+lawful (Delay by) = delay_is_lawful by

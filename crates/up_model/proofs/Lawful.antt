@@ -1,6 +1,7 @@
 -- What every kind keeps, and how a kind comes to keep it.
-use Rattle.std.proofs.Common.{◌≡◌, ℕ, ◌≤◌, ℤ, List, [], ◌++◌, All, Option, Some, None, true, refl, subst}
-use Rattle.std.specs.Prelude.{MatchOption}
+use Rattle.std.proofs.Common.{◌≡◌, ℕ, ◌≤◌, ℤ, List, [], ◌++◌, All, Option, Some, None, Bool, true, false, refl, ap, subst}
+use Rattle.std.proofs.lemmas.Bool.{false≢true}
+use Rattle.std.specs.Prelude.{MatchOption, ◌&&◌, unwrap_or}
 use Rattle.up_base.specs.Lists.{IsPrefix}
 use Rattle.up_model.proofs.Packetwise.{passed-append, summed-grows, work_counts, KeepsLegal, passed_is_legal}
 use Rattle.up_model.specs.KindMeaning.{KindMeaning, Setting, admits}
@@ -67,6 +68,15 @@ by_packets IsWithin step setting fan_out keeps = record {
 -- nothing is no setting
 pub not_some : {X : Type 0} (x : X) → None ≡ Some x → ⊥
 not_some {X} x is = subst (λ (option : Option X). MatchOption option (Unit {0}) (λ there. ⊥)) is tt
+
+-- what holds of the one holds of the other, where both are the same setting
+pub of_some : {X : Type 0} (IsSo : X → Type 0) {x y : X} → Some x ≡ Some y → IsSo x → IsSo y
+of_some IsSo {y = y} are_same is = subst IsSo (ap (λ there. unwrap_or there y) are_same) is
+
+-- both are true where the two together are
+pub both_are : (x y : Bool) → (x && y) ≡ true → (x ≡ true) × (y ≡ true)
+both_are true y are = (refl, are)
+both_are false y are = absurd (false≢true are)
 
 -- a kind without options
 pub no_options_kept : (kind : Kind) → ((option : Opt) → setting_of kind option ≡ None) → KeepsOptions kind

@@ -8,6 +8,7 @@ pub mod Cuts
 pub mod CuttingExamples
 pub mod DelAttr
 pub mod DelAttrExamples
+pub mod Delay
 pub mod Ends
 pub mod EndsExamples
 pub mod EveryKind
@@ -21,6 +22,7 @@ pub mod Joined
 pub mod Lawful
 pub mod LegalFlows
 pub mod Legality
+pub mod MatchAttr
 pub mod MeaningExamples
 pub mod Members
 pub mod NullExamples
@@ -35,6 +37,7 @@ pub mod PlainFlows
 pub mod PlainKinds
 pub mod PlainLegal
 pub mod PlainSteps
+pub mod SetAttr
 pub mod Shares
 pub mod SharesExamples
 pub mod Skip

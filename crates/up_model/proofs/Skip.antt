@@ -4,7 +4,7 @@ use Rattle.std.proofs.lemmas.Bool.{leb-true, le-leb, false≢true}
 use Rattle.std.specs.Prelude.{nat_le, int_le, ◌&&◌, unwrap_or}
 use Rattle.std.specs.Cmp.Derive.{both_true}
 use Rattle.std.specs.Int.RustNames.{unsigned_abs}
-use Rattle.up_model.proofs.Lawful.{IsLawful, KeepsOptions, by_packets, not_some, stands_for_itself}
+use Rattle.up_model.proofs.Lawful.{IsLawful, KeepsOptions, both_are, by_packets, not_some, stands_for_itself}
 use Rattle.up_model.proofs.Packetwise.{KeepsLegal, IsCutOf}
 use Rattle.up_model.specs.KindMeaning.{Setting, admits}
 use Rattle.up_model.specs.Kinds.{setting_of}
@@ -34,11 +34,6 @@ other_options count value Low apart = refl
 other_options count value High apart = refl
 other_options count value By apart = refl
 other_options count value Sync apart = refl
-
--- both are true where the two together are
-both : (x y : Bool) → (x && y) ≡ true → (x ≡ true) × (y ≡ true)
-both true y are = (refl, are)
-both false y are = absurd (false≢true are)
 
 offset_is_set : (count : ℕ) (value : ℤ) → int_le (pos 0) value ≡ true → int_le value (pos MAX_PACKET) ≡ true
     → IsSet Offset value (Skip count) (Skip (unsigned_abs value))
@@ -71,7 +66,7 @@ options_are_kept count = record {
   set = λ option setting value is admitted.
       let only = only_offset count option setting is in
       let bounds : int_le (pos 0) value && int_le value (pos MAX_PACKET) ≡ true = subst (λ (s : Setting). admits s value ≡ true) (sym only.1) admitted in
-      let within = both (int_le (pos 0) value) (int_le value (pos MAX_PACKET)) bounds in
+      let within = both_are (int_le (pos 0) value) (int_le value (pos MAX_PACKET)) bounds in
       rw only.0 (subst (λ (s : Setting). IsSet Offset value (Skip count) (s.set value)) only.1 (offset_is_set count value within.0 within.1));
 }
 

@@ -1,17 +1,20 @@
 -- What each kind of pipe does with a whole flow. The one match that names every kind is `meaning_of`.
 use Rattle.std.specs.Prelude.{ℕ, ℤ, List, Option, Some, None, unwrap_or}
 use Rattle.up_model.specs.DelAttr.{delattr_meaning}
+use Rattle.up_model.specs.Delay.{delay_meaning}
 use Rattle.up_model.specs.Ends.{source_meaning, sink_meaning}
 use Rattle.up_model.specs.KindMeaning.{KindMeaning, Setting, no_options}
+use Rattle.up_model.specs.MatchAttr.{match_attr_meaning}
 use Rattle.up_model.specs.Packet.{Flow}
 use Rattle.up_model.specs.Packetwise.{packetwise, passes_on, drops}
+use Rattle.up_model.specs.SetAttr.{setattr_meaning}
 use Rattle.up_model.specs.Shares.{share_by}
 use Rattle.up_model.specs.Skip.{skip_meaning}
 use Rattle.up_model.specs.Work.{Work}
 use Rattle.up_model.specs.declared.fan_out.FanOut.{FanOut}
 use Rattle.up_model.specs.declared.fan_out.FanOut.TheVariants as fans
 use Rattle.up_model.specs.declared.kind.Kind.{Kind}
-use Rattle.up_model.specs.declared.kind.Kind.TheVariants.{Source, Sink, Idem, Null, Dup, Skip, DelAttr}
+use Rattle.up_model.specs.declared.kind.Kind.TheVariants.{Source, Sink, Idem, Null, Dup, Skip, SetAttr, DelAttr, MatchAttr, Delay}
 use Rattle.up_model.specs.declared.opt.Opt.{Opt}
 
 abbrev pub meaning_of : Kind → KindMeaning
@@ -21,7 +24,10 @@ meaning_of Idem = packetwise (Unit {0}) passes_on no_options fans.One
 meaning_of Null = packetwise (Unit {0}) drops no_options fans.None
 meaning_of Dup = packetwise (Unit {0}) passes_on no_options fans.All
 meaning_of (Skip bytes) = skip_meaning bytes
+meaning_of (SetAttr attr value) = setattr_meaning attr value
 meaning_of (DelAttr attr) = delattr_meaning attr
+meaning_of (MatchAttr attr low high) = match_attr_meaning attr low high
+meaning_of (Delay by) = delay_meaning by
 
 -- its fields are within their bounds
 abbrev pub IsWithinBounds : Kind → Type 0

@@ -1,12 +1,15 @@
 pub mod Attrs
 pub mod Chain
 pub mod Cutting
+pub mod Dates
 pub mod DelAttr
+pub mod Delay
 pub mod Ends
 pub mod FaultTests
 pub mod Inputs
 pub mod KindMeaning
 pub mod Kinds
+pub mod MatchAttr
 pub mod Meaning
 pub mod OptionValues
 pub mod Outcomes
@@ -14,6 +17,7 @@ pub mod Packet
 pub mod Packetwise
 pub mod Plans
 pub mod Rules
+pub mod SetAttr
 pub mod Shares
 pub mod Skip
 pub mod Tallies

@@ -1,5 +1,5 @@
 -- Values of attributes.
-use Rattle.std.specs.Prelude.{◌≡◌, ◌<◌, ◌≤◌, ◌^◌, true, length}
+use Rattle.std.specs.Prelude.{◌≡◌, ℕ, ◌<◌, ◌≤◌, ◌^◌, true, length, Option, Some, None}
 use Rattle.std.specs.Str.{is_utf8}
 use Rattle.up_model.specs.declared.limits.TheConstants.{MAX_VALUE}
 use Rattle.up_model.specs.declared.value.Value.{Value}
@@ -22,3 +22,11 @@ IsLegalValue (Flag flag) = Unit {0}
 IsLegalValue (Unsigned number) = number < 2 ^ 64
 IsLegalValue (Words text) = (is_utf8 text ≡ true) × (length text ≤ MAX_VALUE)
 IsLegalValue (Opaque bytes) = length bytes ≤ MAX_VALUE
+
+-- the number that a value is, where it is one
+abbrev pub unsigned_of : Value → Option ℕ
+unsigned_of Void = None
+unsigned_of (Flag flag) = None
+unsigned_of (Unsigned number) = Some number
+unsigned_of (Words text) = None
+unsigned_of (Opaque bytes) = None

@@ -3,8 +3,9 @@ ghost use Rattle.std.specs.List.{list_any};
 ghost use Rattle.std.specs.Option.{option_map};
 ghost use Rattle.up_model.specs.Ends.{IsPath, is_source, is_sink, path_of};
 ghost use Rattle.up_model.specs.Kinds.{IsWithinBounds, fan_out_of};
+ghost use Rattle.up_model.specs.SetAttr.{IsAttribute};
 
-use crate::{FanOut, MAX_BLOCK, MAX_LIMIT, MAX_PACKET, MAX_PATH, SinkForm, SourceForm};
+use crate::{FanOut, MAX_BLOCK, MAX_LIMIT, MAX_PACKET, MAX_PATH, SinkForm, SourceForm, Value};
 use up_base::{AttrName, Text};
 
 /// What a pipe does, with the fields of its kind.
@@ -31,9 +32,24 @@ pub enum Kind {
     Skip {
         bytes: u32,
     },
+    /// Puts out each packet with this attribute, and drops one that would then have more than 64.
+    SetAttr {
+        attr: AttrName,
+        value: Value,
+    },
     /// Puts out each packet without the attribute of this name.
     DelAttr {
         attr: AttrName,
+    },
+    /// Puts out the packets whose attribute of this name is a number from `low` to `high`, both included, and drops the others.
+    MatchAttr {
+        attr: AttrName,
+        low: u64,
+        high: u64,
+    },
+    /// Adds `by` to each date of a packet, and takes away a date that would be below 0 or above 2^64 - 1.
+    Delay {
+        by: i64,
     },
 }
 
@@ -51,6 +67,14 @@ fn is_path(path: &Text) -> bool
     !bytes.is_empty() && bytes.len() <= MAX_PATH && !has_zero(bytes)
 }
 
+/// Whether the value is legal. The name is one by its type.
+fn is_attribute(attr: &AttrName, value: &Value) -> bool
+    ensures { IsTrue result ↔ IsAttribute attr.now value.now }
+{
+    let _name = attr.bytes();
+    value.is_legal()
+}
+
 impl Kind {
     pub fn is_source(&self) -> bool
         ensures { result ≡ is_source self.now }
@@ -62,7 +86,10 @@ impl Kind {
             | Kind::Null
             | Kind::Dup
             | Kind::Skip { .. }
-            | Kind::DelAttr { .. } => false,
+            | Kind::SetAttr { .. }
+            | Kind::DelAttr { .. }
+            | Kind::MatchAttr { .. }
+            | Kind::Delay { .. } => false,
         }
     }
 
@@ -76,7 +103,10 @@ impl Kind {
             | Kind::Null
             | Kind::Dup
             | Kind::Skip { .. }
-            | Kind::DelAttr { .. } => false,
+            | Kind::SetAttr { .. }
+            | Kind::DelAttr { .. }
+            | Kind::MatchAttr { .. }
+            | Kind::Delay { .. } => false,
         }
     }
 
@@ -86,9 +116,13 @@ impl Kind {
     {
         match self {
             Kind::Sink { .. } | Kind::Null => FanOut::None,
-            Kind::Source { .. } | Kind::Idem | Kind::Skip { .. } | Kind::DelAttr { .. } => {
-                FanOut::One
-            }
+            Kind::Source { .. }
+            | Kind::Idem
+            | Kind::Skip { .. }
+            | Kind::SetAttr { .. }
+            | Kind::DelAttr { .. }
+            | Kind::MatchAttr { .. }
+            | Kind::Delay { .. } => FanOut::One,
             Kind::Dup => FanOut::All,
         }
     }
@@ -99,7 +133,14 @@ impl Kind {
     {
         match self {
             Kind::Source { path, .. } | Kind::Sink { path, .. } => Some(path),
-            Kind::Idem | Kind::Null | Kind::Dup | Kind::Skip { .. } | Kind::DelAttr { .. } => None,
+            Kind::Idem
+            | Kind::Null
+            | Kind::Dup
+            | Kind::Skip { .. }
+            | Kind::SetAttr { .. }
+            | Kind::DelAttr { .. }
+            | Kind::MatchAttr { .. }
+            | Kind::Delay { .. } => None,
         }
     }
 
@@ -118,6 +159,9 @@ impl Kind {
                 form: SinkForm::Raw,
             } => is_path(path),
             Kind::Skip { bytes } => *bytes <= MAX_PACKET,
+            Kind::SetAttr { attr, value } => is_attribute(attr, value),
+            Kind::MatchAttr { attr: _, low, high } => low <= high,
+            Kind::Delay { by } => i64::MIN <= *by && *by <= i64::MAX,
             Kind::Idem | Kind::Null | Kind::Dup | Kind::DelAttr { .. } => true,
         }
     }

@@ -4,6 +4,7 @@
 #[cfg(test)]
 mod attr_tests;
 mod catch_set;
+mod date_kind;
 mod event_kind;
 mod fan_out;
 mod faults;
@@ -41,6 +42,7 @@ mod verdict;
 mod well_formed;
 
 pub use catch_set::CatchSet;
+pub use date_kind::DateKind;
 pub use event_kind::EventKind;
 pub use fan_out::FanOut;
 pub use form::{SinkForm, SourceForm};

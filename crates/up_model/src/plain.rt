@@ -10,7 +10,7 @@ ghost use Rattle.up_model.specs.WellFormed.{IsWellFormed};
 
 use crate::plain_ends::{form_bytes, form_packets};
 use crate::plain_flow::flow_within;
-use crate::plain_kinds::{DropsAll, PassesOn, Skips, TakesAway};
+use crate::plain_kinds::{Delays, DropsAll, Matches, PassesOn, Sets, Skips, TakesAway};
 use crate::plain_step::passed;
 use crate::{GivenBytes, Graph, Kind, PacketList};
 use std::alloc::Global;
@@ -40,7 +40,10 @@ pub fn plain_source(
         | Kind::Null
         | Kind::Dup
         | Kind::Skip { .. }
-        | Kind::DelAttr { .. } => Ok(PacketList::new(alloc)),
+        | Kind::SetAttr { .. }
+        | Kind::DelAttr { .. }
+        | Kind::MatchAttr { .. }
+        | Kind::Delay { .. } => Ok(PacketList::new(alloc)),
     }
 }
 
@@ -69,7 +72,23 @@ pub fn plain_out(
         Kind::Null => passed(alloc, &DropsAll, flow),
         Kind::Dup => passed(alloc, &PassesOn, flow),
         Kind::Skip { bytes } => passed(alloc, &Skips { count: *bytes }, flow),
+        Kind::SetAttr { attr, value } => {
+            let sets = Sets {
+                attr: *attr,
+                value: value.copy(alloc)?,
+            };
+            passed(alloc, &sets, flow)
+        }
         Kind::DelAttr { attr } => passed(alloc, &TakesAway { attr: *attr }, flow),
+        Kind::MatchAttr { attr, low, high } => {
+            let matches = Matches {
+                attr: *attr,
+                low: *low,
+                high: *high,
+            };
+            passed(alloc, &matches, flow)
+        }
+        Kind::Delay { by } => passed(alloc, &Delays { by: *by }, flow),
     }
 }
 
@@ -93,7 +112,10 @@ pub fn plain_sink(
         | Kind::Null
         | Kind::Dup
         | Kind::Skip { .. }
-        | Kind::DelAttr { .. } => Ok(Bytes::new(alloc)),
+        | Kind::SetAttr { .. }
+        | Kind::DelAttr { .. }
+        | Kind::MatchAttr { .. }
+        | Kind::Delay { .. } => Ok(Bytes::new(alloc)),
     }
 }
 

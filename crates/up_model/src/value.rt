@@ -1,5 +1,6 @@
-ghost use Rattle.std.specs.Prelude.{◌≡◌, IfOk};
+ghost use Rattle.std.specs.Prelude.{◌≡◌, ◌↔◌, IfOk, IsTrue};
 
+use crate::MAX_VALUE;
 use std::alloc::Global;
 use up_base::{Bytes, NoMemory, Text};
 
@@ -26,7 +27,7 @@ pub enum ValueView<'a> {
 }
 
 impl Value {
-    ghost use Rattle.up_model.specs.Value.{lent};
+    ghost use Rattle.up_model.specs.Value.{lent, IsLegalValue};
 
     /// The value, lent.
     pub fn view(&self) -> ValueView<'_>
@@ -40,6 +41,19 @@ impl Value {
             Value::Opaque(bytes) => ValueView::Opaque(bytes.as_slice()),
         }
     }
+
+    /// Whether a text or opaque value has at most 4,096 bytes.
+    pub fn is_legal(&self) -> bool
+        ensures { IsTrue result ↔ IsLegalValue self.now }
+    {
+        match self {
+            Value::Void | Value::Flag(_) => true,
+            Value::Unsigned(number) => *number <= u64::MAX,
+            Value::Words(text) => text.as_slice().len() <= MAX_VALUE,
+            Value::Opaque(bytes) => bytes.as_slice().len() <= MAX_VALUE,
+        }
+    }
+
     /// The same value, on memory of its own.
     pub fn copy(&self, alloc: Global) -> Result<Value, NoMemory>
         ensures { IfOk result (λ copy. copy ≡ self.now) }

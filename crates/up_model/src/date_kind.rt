@@ -1,6 +1,6 @@
 ghost use Rattle.std.specs.Prelude.{◌≡◌, true};
 ghost use Rattle.up_base.specs.Name.{is_name};
-ghost use Rattle.up_dict.specs.Dates.{date_name};
+ghost use Rattle.up_model.specs.Dates.{date_name};
 
 /// Which of a packet's dates, each of which is an attribute.
 #[derive(Clone, Copy, Debug, PartialEq, Eq)]
@@ -15,7 +15,7 @@ pub enum DateKind {
 
 impl DateKind {
     /// The name of the attribute.
-    pub(crate) fn name(self) -> &'static [u8]
+    pub fn name(self) -> &'static [u8]
         ensures name { result.now ≡ date_name self }
         ensures is_name { is_name result.now ≡ true }
     {
