@@ -6,7 +6,7 @@ use crate::packet_step::{Made, PacketStep};
 use crate::{Command, ControlRefused, LocalPacket, Module, Outbox, Reply, put_out};
 use std::marker::PhantomData;
 use up_base::{AttrName, NoMemory};
-use up_model::{Tally, Verdict};
+use up_model::{Tally, Value, Verdict};
 
 /// A kind that looks at each packet by itself.
 #[derive(Debug)]
@@ -44,6 +44,26 @@ impl<K: Made<AttrName>> Packetwise<K, AttrName> {
     {
         Packetwise {
             step: K::made(attr),
+            fed: false,
+            fields: PhantomData,
+        }
+    }
+}
+
+impl<K: Made<(AttrName, Value)>> Packetwise<K, (AttrName, Value)> {
+    ghost use Rattle.std.specs.Prelude.{true};
+    ghost use Rattle.up_base.specs.Name.{is_name};
+    ghost use Rattle.up_shape.specs.Packetwise.{step_of, StandsFor};
+
+    /// One of this attribute with this value, that was fed nothing. That `attr` is a name is known by its type.
+    pub fn new(attr: AttrName, value: Value) -> Packetwise<K, (AttrName, Value)>
+        requires bounds { is_name attr ≡ true → IsWithinBounds (K.first (attr, value)) }
+        ensures kind { K.kind (step_of result) ≡ K.first (attr, value) }
+        ensures fed_nothing { StandsFor result [] }
+    {
+        let _name = attr.bytes();
+        Packetwise {
+            step: K::made((attr, value)),
             fed: false,
             fields: PhantomData,
         }
