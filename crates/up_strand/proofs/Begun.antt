@@ -50,7 +50,10 @@ raw_sink kinds.Idem is = absurd (cc)
 raw_sink kinds.Null is = absurd (cc)
 raw_sink kinds.Dup is = absurd (cc)
 raw_sink (kinds.Skip bytes) is = absurd (cc)
+raw_sink (kinds.SetAttr attr value) is = absurd (cc)
 raw_sink (kinds.DelAttr attr) is = absurd (cc)
+raw_sink (kinds.MatchAttr attr low high) is = absurd (cc)
+raw_sink (kinds.Delay by) is = absurd (cc)
 
 -- a sink that was given nothing
 pub sink_begins : {K : Type 0} (state : K → SinkState) (seat : Seat) (kind : Kind) (sink : K) → seat.kind ≡ Some kind → is_sink kind ≡ true → seat.start ≡ state sink

@@ -1,5 +1,5 @@
 -- The values that the modules of a strand own.
-use Rattle.std.specs.Prelude.{ℕ, List, Option, None, slice_get}
+use Rattle.std.specs.Prelude.{ℕ, List, Option, Some, None, slice_get}
 use Rattle.std.specs.Option.{option_map_or}
 use Rattle.up_model.specs.declared.kind.Kind.{Kind}
 use Rattle.up_model.specs.declared.kind.Kind.TheVariants as kinds
@@ -14,7 +14,10 @@ value_of_kind kinds.Idem = None
 value_of_kind kinds.Null = None
 value_of_kind kinds.Dup = None
 value_of_kind (kinds.Skip bytes) = None
+value_of_kind (kinds.SetAttr attr value) = Some value
 value_of_kind (kinds.DelAttr attr) = None
+value_of_kind (kinds.MatchAttr attr low high) = None
+value_of_kind (kinds.Delay by) = None
 
 -- what the module of the pipe at a place owns
 abbrev pub value_at : List Pipe → ℕ → Option Value

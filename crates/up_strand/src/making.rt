@@ -35,8 +35,8 @@ use up_shape::LocalPacket;
 
 impl<P: LocalPacket, S: Source, K: Sink> Strand<P, S, K> {
     /// The strand of a head, with its source, where the head is one, and its sinks, in the order of
-    /// the file. The room that its end needs is taken here; where there is none, its parts come
-    /// back.
+    /// the file. The room that its end needs, and copies of the values that its pipes set, are taken
+    /// here; where there is none, its parts come back.
     pub fn new(
         alloc: Global,
         graph: &Graph,

@@ -10,17 +10,20 @@ use up_model::{Kind, PipeList, Value};
 pub(crate) type ValueList = ItemList<Option<Value>>;
 
 /// The value that the module of a kind owns.
-pub(crate) fn value_of(_alloc: Global, kind: &Kind) -> Result<Option<Value>, NoMemory>
+pub(crate) fn value_of(alloc: Global, kind: &Kind) -> Result<Option<Value>, NoMemory>
     ensures { IfOk result (λ value. value ≡ value_of_kind kind.now) }
 {
     Ok(match kind {
+        Kind::SetAttr { attr: _, value } => Some(value.copy(alloc)?),
         Kind::Source { .. }
         | Kind::Sink { .. }
         | Kind::Idem
         | Kind::Null
         | Kind::Dup
         | Kind::Skip { .. }
-        | Kind::DelAttr { .. } => None,
+        | Kind::DelAttr { .. }
+        | Kind::MatchAttr { .. }
+        | Kind::Delay { .. } => None,
     })
 }
 
