@@ -64,7 +64,7 @@ fn made_match(dice: &mut Dice, attr: &'static str, number: u64) -> Does {
     Does::MatchAttr {
         attr,
         low,
-        high: low.saturating_add(u64::from(dice.roll(4))),
+        high: low.saturating_add(u64::from(dice.roll(6))),
     }
 }
 
@@ -72,9 +72,9 @@ fn made_match(dice: &mut Dice, attr: &'static str, number: u64) -> Does {
 fn made_on_attrs(dice: &mut Dice, before: Does) -> Does {
     let number = u64::from(dice.roll(4));
     match (before, dice.roll(4)) {
-        (Does::SetAttr { attr, value }, 0) => made_match(dice, attr, value),
-        (Does::Delay(_), 0 | 1) => made_match(dice, ATTRS[0], number),
-        (_, 2 | 3) => Does::Delay(i64::from(dice.roll(5)) - 2),
+        (Does::SetAttr { attr, value }, 0 | 1) => made_match(dice, attr, value),
+        (Does::Delay(_) | Does::Dup, 0) => made_match(dice, ATTRS[0], number),
+        (_, 2) => Does::Delay(i64::from(dice.roll(5)) - 2),
         _ => Does::SetAttr {
             attr: ATTRS[dice.roll(4) as usize],
             value: number,
