@@ -1,10 +1,10 @@
 -- A strand that is made stands for nothing done.
-use Rattle.std.proofs.Common.{◌≡◌, ◌≢◌, ℕ, zero, suc, ◌+◌, ◌<◌, ◌≤◌, ◌==◌, List, [], ◌∷◌, ◌++◌, length, take, drop, get_or, cond, replicate, Bool, true, false, Option, Some, None, slice_get, refl, sym, ap, ◌∙◌, subst, arith, inl, inr}
+use Rattle.std.proofs.Common.{◌≡◌, ◌≢◌, ℕ, zero, suc, ◌+◌, ◌<◌, ◌≤◌, ◌==◌, List, [], ◌∷◌, ◌++◌, length, map, take, drop, get_or, cond, replicate, Bool, true, false, Option, Some, None, slice_get, refl, sym, ap, ◌∙◌, subst, arith, inl, inr}
 use Rattle.std.specs.Prelude.{MatchOption, IfSome, nat_lt, nat_le, option_map}
 use Rattle.std.specs.List.{filter, position_or_len}
 use Rattle.std.proofs.lemmas.Bool.{cases_Bool, cases_lt, lt-ltb, ltb-true}
 use Rattle.std.proofs.lemmas.Bool.Decides.{eqb_tells}
-use Rattle.std.proofs.lemmas.List.{get_or-take, get_or-drop, get_or_append_left, length-take-le}
+use Rattle.std.proofs.lemmas.List.{get_or-map, get_or-take, get_or-drop, get_or_append_left, get_or_past, length-map, length-take-le}
 use Rattle.std.proofs.Math.Seq.{take-length, take-append_seam, get_or-append_seam}
 use Rattle.std.proofs.lemmas.List.Filters.{length-filter_more}
 use Rattle.std.proofs.lemmas.Option.{slice_get-get_or}
@@ -21,13 +21,15 @@ use Rattle.up_model.specs.declared.kind.Kind.{Kind}
 use Rattle.up_model.specs.declared.kind.Kind.TheVariants as kinds
 use Rattle.up_model.specs.declared.pipe.Pipe.{Pipe}
 use Rattle.up_model.specs.declared.plain_packet.PlainPacket.{PlainPacket}
+use Rattle.up_model.specs.declared.value.Value.{Value}
 use Rattle.up_outside.specs.Counts.{CountsOnce}
 use Rattle.up_outside.specs.States.{SinkState}
 use Rattle.up_strand.proofs.Writes.{receives_nothing}
-use Rattle.up_strand.specs.Making.{CanBegin, HasBegun, is_sink_in, node_place, own_in, seat_in, sink_places}
+use Rattle.up_strand.specs.Making.{CanBegin, HasBegun, is_sink_in, node_place, own_in, seat_in, sink_places, value_in}
 use Rattle.up_strand.specs.StrandCalls.{told_of}
 use Rattle.up_strand.specs.Nodes.{NodeStands, PartStands, Seat, has_ended, has_failed, is_outlet}
 use Rattle.up_strand.specs.Shapes.{IsShapeOf, input_in}
+use Rattle.up_strand.specs.Values.{value_at}
 use Rattle.up_strand.specs.Writing.{Receives}
 use Rattle.up_strand.specs.declared.node.Node.{Node}
 use Rattle.up_strand.specs.declared.node.Part.{Part}
@@ -48,7 +50,10 @@ raw_sink kinds.Idem is = absurd (cc)
 raw_sink kinds.Null is = absurd (cc)
 raw_sink kinds.Dup is = absurd (cc)
 raw_sink (kinds.Skip bytes) is = absurd (cc)
+raw_sink (kinds.SetAttr attr value) is = absurd (cc)
 raw_sink (kinds.DelAttr attr) is = absurd (cc)
+raw_sink (kinds.MatchAttr attr low high) is = absurd (cc)
+raw_sink (kinds.Delay by) is = absurd (cc)
 
 -- a sink that was given nothing
 pub sink_begins : {K : Type 0} (state : K → SinkState) (seat : Seat) (kind : Kind) (sink : K) → seat.kind ≡ Some kind → is_sink kind ≡ true → seat.start ≡ state sink
@@ -173,6 +178,21 @@ module _ (pipes : List Pipe) (shape : Shape) (can : CanBegin pipes shape) where
         | inr past ↦
             let no_pipe : nat_lt i shape.pipes ≡ false = not_below i shape.pipes past in
             absurd (let wrong : false ≡ true = rw no_pipe at is in cc)
+      ]
+
+  -- the next value is that of the next node
+  pub next_owned : (values : List (Option Value)) (i : ℕ) → values ≡ map (value_at pipes) (own_in shape) → get_or (drop i values) 0 None ≡ value_in pipes shape i
+  next_owned values i are =
+      let plus : i + 0 ≡ i = omega arith in
+      let next : get_or (drop i values) 0 None ≡ get_or (map (value_at pipes) (own_in shape)) i None =
+      get_or-drop i values 0 None ∙ ap (λ k. get_or values k None) plus ∙ ap (λ l. get_or l i None) are in
+      elim (cases_lt i shape.pipes) [
+        | inl below ↦
+            let item = get_or-map (value_at pipes) (own_in shape) i 0 None (omega (arith, own_length)) in
+            rw (lt-ltb i shape.pipes below) (next ∙ item ∙ ap (value_at pipes) (own_place i below))
+        | inr past ↦
+            let none = get_or_past (map (value_at pipes) (own_in shape)) i None (let long = length-map (own_in shape) (value_at pipes) in omega (arith, own_length, long)) in
+            rw (not_below i shape.pipes past) (next ∙ none)
       ]
 
 module _ (pipes : List Pipe) (well : IsWellFormed pipes) (shape : Shape) (told : ℕ → SinkState) where

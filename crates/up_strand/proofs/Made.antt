@@ -102,7 +102,10 @@ nothing_carried kinds.Idem = refl
 nothing_carried kinds.Null = refl
 nothing_carried kinds.Dup = refl
 nothing_carried (kinds.Skip bytes) = refl
+nothing_carried (kinds.SetAttr attr value) = refl
 nothing_carried (kinds.DelAttr attr) = refl
+nothing_carried (kinds.MatchAttr attr low high) = refl
+nothing_carried (kinds.Delay by) = refl
 
 module _ {P K : Type 0} (plain : P → PlainPacket) (state : K → SinkState) (pipes : List Pipe) (head : ℕ) (told : ℕ → SinkState)
     (shape : Shape) (is : IsShapeOf pipes head shape) (nodes : List (Node P K)) (count : length nodes ≡ length shape.places.items)

@@ -37,7 +37,10 @@ any_has_module (modules.Idem m) = refl
 any_has_module (modules.Null m) = refl
 any_has_module (modules.Dup m) = refl
 any_has_module (modules.Skip m) = refl
+any_has_module (modules.SetAttr m) = refl
 any_has_module (modules.DelAttr m) = refl
+any_has_module (modules.MatchAttr m) = refl
+any_has_module (modules.Delay m) = refl
 
 -- the work of a module's node is that of its kind
 pub settled_by : (m : AnyModule) (fed : Flow) → node_work false (Some (any_kind m)) fed ≡ settled_work (any_kind m) fed
@@ -45,14 +48,20 @@ settled_by (modules.Idem m) fed = refl
 settled_by (modules.Null m) fed = refl
 settled_by (modules.Dup m) fed = refl
 settled_by (modules.Skip m) fed = refl
+settled_by (modules.SetAttr m) fed = refl
 settled_by (modules.DelAttr m) fed = refl
+settled_by (modules.MatchAttr m) fed = refl
+settled_by (modules.Delay m) fed = refl
 
 pub work_by : (m : AnyModule) (fed : Flow) → node_work true (Some (any_kind m)) fed ≡ work_of (any_kind m) fed
 work_by (modules.Idem m) fed = refl
 work_by (modules.Null m) fed = refl
 work_by (modules.Dup m) fed = refl
 work_by (modules.Skip m) fed = refl
+work_by (modules.SetAttr m) fed = refl
 work_by (modules.DelAttr m) fed = refl
+work_by (modules.MatchAttr m) fed = refl
+work_by (modules.Delay m) fed = refl
 
 -- a source puts out what it is given
 pub head_work : (whole : Bool) (kind : Option Kind) (fed : Flow) → MatchOption kind ⊥ (λ k. is_source k ≡ true)

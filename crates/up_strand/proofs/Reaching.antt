@@ -39,7 +39,10 @@ same_kind numbers kinds.Idem = refl
 same_kind numbers kinds.Null = refl
 same_kind numbers kinds.Dup = refl
 same_kind numbers (kinds.Skip bytes) = refl
+same_kind numbers (kinds.SetAttr attr value) = refl
 same_kind numbers (kinds.DelAttr attr) = refl
+same_kind numbers (kinds.MatchAttr attr low high) = refl
+same_kind numbers (kinds.Delay by) = refl
 
 pub whole_output : (kind : Kind) (select : Option ℕ) (flow : Flow) → share_of kind select flow ≡ flow
 whole_output (kinds.Source path form limit) select flow = refl
@@ -48,7 +51,10 @@ whole_output kinds.Idem select flow = refl
 whole_output kinds.Null select flow = refl
 whole_output kinds.Dup select flow = refl
 whole_output (kinds.Skip bytes) select flow = refl
+whole_output (kinds.SetAttr attr value) select flow = refl
 whole_output (kinds.DelAttr attr) select flow = refl
+whole_output (kinds.MatchAttr attr low high) select flow = refl
+whole_output (kinds.Delay by) select flow = refl
 
 -- what a pipe does, wholly or so far
 abbrev pub doing : Bool → Doing
@@ -82,7 +88,10 @@ holds_nothing_back kinds.Idem taken = refl
 holds_nothing_back kinds.Null taken = refl
 holds_nothing_back kinds.Dup taken = refl
 holds_nothing_back (kinds.Skip bytes) taken = refl
+holds_nothing_back (kinds.SetAttr attr value) taken = refl
 holds_nothing_back (kinds.DelAttr attr) taken = refl
+holds_nothing_back (kinds.MatchAttr attr low high) taken = refl
+holds_nothing_back (kinds.Delay by) taken = refl
 
 -- what a node put out of the first packets that its pipe takes comes first of what comes of all, also where its flow has ended
 pub whole_first : (place : ℕ) (whole : Bool) (kind : Kind) (fed taken : Flow) → IsWithinBounds kind → IsPrefix fed taken
@@ -101,7 +110,10 @@ counts_nothing_more kinds.Idem taken = refl
 counts_nothing_more kinds.Null taken = refl
 counts_nothing_more kinds.Dup taken = refl
 counts_nothing_more (kinds.Skip bytes) taken = refl
+counts_nothing_more (kinds.SetAttr attr value) taken = refl
 counts_nothing_more (kinds.DelAttr attr) taken = refl
+counts_nothing_more (kinds.MatchAttr attr low high) taken = refl
+counts_nothing_more (kinds.Delay by) taken = refl
 
 source_sums_first : (fed taken : Flow) → IsPrefix fed taken → IsAtMost (of_source fed) (of_source taken)
 source_sums_first fed taken first = subst (λ (f : Flow). IsAtMost (of_source fed) (of_source f)) (sym first.1) (source_sums_grow fed first.0)

@@ -14,5 +14,6 @@ pub mod StrandCalls
 pub mod Strands
 pub mod TakenOut
 pub mod Tree
+pub mod Values
 pub mod Waiting
 pub mod Writing

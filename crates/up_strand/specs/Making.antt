@@ -1,5 +1,5 @@
 -- A strand that is made: its room, and its nodes, which took nothing.
-use Rattle.std.specs.Prelude.{◌≡◌, ℕ, ◌<◌, ◌≤◌, ◌&&◌, List, [], length, map, take, slice_get, slice_index_or, Bool, false, nat_le, nat_lt, None, option_map, if◌then◌else◌}
+use Rattle.std.specs.Prelude.{◌≡◌, ℕ, ◌<◌, ◌≤◌, ◌&&◌, List, [], length, map, take, slice_get, slice_index_or, Bool, false, nat_le, nat_lt, Option, None, option_map, if◌then◌else◌}
 use Rattle.std.specs.List.{filter}
 use Rattle.std.specs.Option.{option_map_or}
 use Rattle.std.specs.Vec.{vec_capacity}
@@ -8,11 +8,13 @@ use Rattle.up_model.specs.Plans.{ends_at_sink, sinks_of, strand_of}
 use Rattle.up_model.specs.declared.catch_set.CatchSet.{CatchSet}
 use Rattle.up_model.specs.declared.pipe.Pipe.{Pipe}
 use Rattle.up_model.specs.declared.plain_packet.PlainPacket.{PlainPacket}
+use Rattle.up_model.specs.declared.value.Value.{Value}
 use Rattle.up_outside.specs.States.{SinkState}
 use Rattle.up_strand.specs.Nodes.{IsSound, NodeStands, Seat, has_failed, is_outlet}
 use Rattle.up_strand.specs.Rooms.{HasOnlyRoom}
 use Rattle.up_strand.specs.Shapes.{IsShapeOf, input_in}
 use Rattle.up_strand.specs.StrandCalls.{no_sink}
+use Rattle.up_strand.specs.Values.{value_at}
 use Rattle.up_strand.specs.declared.making.Rooms.{Rooms}
 use Rattle.up_strand.specs.declared.node.Node.{Node}
 use Rattle.up_strand.specs.declared.node.Part.TheVariants.{Sink}
@@ -42,6 +44,10 @@ module _ (pipes : List Pipe) (shape : Shape) where
   -- the node is a sink's
   abbrev pub is_sink_in : ℕ → Bool
   is_sink_in i = nat_lt i shape.pipes && passes_at ends_at_sink pipes (node_place shape i)
+
+  -- what the module of the node owns
+  abbrev pub value_in : ℕ → Option Value
+  value_in i = if nat_lt i shape.pipes then value_at pipes (node_place shape i) else None
 
   -- what the nodes of the shape can be made of
   pub record CanBegin : Type 0 where
@@ -82,6 +88,7 @@ pub record HasRoomFor {P K : Type 0} (pipes : List Pipe) (head : ℕ) (rooms : R
   pub shape : IsShapeOf pipes head rooms.shape
   pub empty : rooms.nodes.items ≡ []
   pub room : length rooms.shape.places.items ≤ vec_capacity rooms.nodes
+  pub values : rooms.values ≡ map (value_at pipes) (own_in rooms.shape)
   pub caught : rooms.caught.items ≡ map (caught_at pipes) (strand_of pipes head)
   pub closings : length rooms.closed.items ≡ length rooms.shape.places.items
   pub open_yet : (i : ℕ) → slice_index_or rooms.closed.items i false ≡ false

@@ -94,7 +94,7 @@ fn give_to_four(
     let s = &mut TrialStore::new(alloc, dups);
     let one = depot.open_sink("one").expect(rt, "no sink");
     let two = depot.open_sink("two").expect(rt, "no sink");
-    let skip = AnyModule::of::<TrialPacket>(&Kind::Skip { bytes: 2 }).expect(rt, "no module");
+    let skip = AnyModule::of::<TrialPacket>(&Kind::Skip { bytes: 2 }, None).expect(rt, "no module");
     let mut nodes = [
         taker(
             alloc,

@@ -21,6 +21,7 @@ mod strand;
 mod strand_end;
 mod sweep;
 mod tree;
+mod values;
 mod want;
 
 pub use laws::{

@@ -10,10 +10,11 @@ ghost use Rattle.up_model.specs.Plans.{ends_at_sink, heads, sinks_of};
 ghost use Rattle.up_model.specs.WellFormed.{IsWellFormed};
 ghost use Rattle.up_plan.specs.Plan.{plan_of};
 ghost use Rattle.up_outside.specs.States.{SinkState};
-ghost use Rattle.up_strand.specs.Making.{CanBegin, HasBegun, HasRoomFor, caught_at, is_sink_in, seat_in, sink_places};
+ghost use Rattle.up_strand.specs.Making.{CanBegin, HasBegun, HasRoomFor, caught_at, is_sink_in, own_in, seat_in, sink_places, value_in};
 ghost use Rattle.up_strand.specs.Nodes.{PartStands, Seat, has_ended, has_failed, is_outlet};
 ghost use Rattle.up_strand.specs.StrandCalls.{begun, sinks_told, told_of};
 ghost use Rattle.up_strand.specs.Strands.{IntakeStands, StandsFor, StrandFits};
+ghost use Rattle.up_strand.specs.Values.{value_at, value_of_kind};
 ghost use Rattle.up_strand.specs.declared.node.Part.TheVariants as parts;
 
 use crate::any_module::AnyModule;
@@ -24,17 +25,18 @@ use crate::shape::Shape;
 use crate::strand::Strand;
 use crate::strand_end::{SinkList, StrandParts};
 use crate::tree::Tree;
+use crate::values::{ValueList, next_value, values_of};
 use std::alloc::Global;
 use up_base::{NoMemory, NoRoom};
-use up_model::{CatchSet, Graph, Kind, PipeList, SourceForm};
+use up_model::{CatchSet, Graph, Kind, PipeList, SourceForm, Value};
 use up_outside::{Sink, Source};
 use up_plan::Plan;
 use up_shape::LocalPacket;
 
 impl<P: LocalPacket, S: Source, K: Sink> Strand<P, S, K> {
     /// The strand of a head, with its source, where the head is one, and its sinks, in the order of
-    /// the file. The room that its end needs is taken here; where there is none, its parts come
-    /// back.
+    /// the file. The room that its end needs, and copies of the values that its pipes set, are taken
+    /// here; where there is none, its parts come back.
     pub fn new(
         alloc: Global,
         graph: &Graph,
@@ -69,6 +71,7 @@ impl<P: LocalPacket, S: Source, K: Sink> Strand<P, S, K> {
 struct Rooms<P, K> {
     shape: Shape,
     nodes: Vec<Node<P, K>>,
+    values: ValueList,
     caught: Vec<CatchSet>,
     closed: Vec<bool>,
     told: Told<K>,
@@ -132,6 +135,7 @@ impl<P: LocalPacket, K: Sink> Rooms<P, K> {
         let shape = Shape::of(alloc, graph, plan, head)?;
         let pipes = &graph.pipes;
         let own = &shape.places[..shape.pipes];
+        let values = values_of(alloc, pipes, own)?;
         let caught = catches_of(alloc, pipes, own)?;
         let closed = none_closed(alloc, shape.places.len())?;
         let sinks = sink_count(pipes, own);
@@ -140,6 +144,7 @@ impl<P: LocalPacket, K: Sink> Rooms<P, K> {
             Ok(told) => Ok(Rooms {
                 shape,
                 nodes,
+                values,
                 caught,
                 closed,
                 told,
@@ -173,11 +178,12 @@ impl<P: LocalPacket, K: Sink> Rooms<P, K> {
         let Rooms {
             shape,
             nodes,
+            values,
             caught,
             closed,
             told,
         } = self;
-        let nodes = nodes_of(alloc, &graph.pipes, &shape, nodes, sinks);
+        let nodes = nodes_of(alloc, &graph.pipes, &shape, nodes, values, sinks);
         let Shape {
             places,
             pipes: _,
@@ -204,9 +210,14 @@ impl<P: LocalPacket, K: Sink> Rooms<P, K> {
     }
 }
 
-/// What the pipe of a kind does; a sink is the next of the strand's.
-fn part_of<P: LocalPacket, K: Sink>(kind: &Kind, sinks: &mut SinkList<K>) -> Part<K>
+/// What the pipe of a kind does, whose module owns this value; a sink is the next of the strand's.
+fn part_of<P: LocalPacket, K: Sink>(
+    kind: &Kind,
+    value: Option<Value>,
+    sinks: &mut SinkList<K>,
+) -> Part<K>
     requires within { IsWithinBounds kind.now }
+    requires value { value ≡ value_of_kind kind.now }
     requires sinks { is_sink kind.now ≡ true → 0 < length sinks.old }
     ensures rest { sinks.new ≡ drop (if is_sink kind.now then 1 else 0) sinks.old }
     ensures stands { (seat : Seat) → seat.kind ≡ Some kind.now
@@ -231,22 +242,24 @@ fn part_of<P: LocalPacket, K: Sink>(kind: &Kind, sinks: &mut SinkList<K>) -> Par
             None => unreachable!(),
         };
     }
-    match AnyModule::of::<P>(kind) {
+    match AnyModule::of::<P>(kind, value) {
         Some(module) => Part::Pipe(module),
         None => unreachable!(),
     }
 }
 
-/// What the node at a place does; a sink is the next of the strand's.
+/// What the node at a place does, whose module owns this value; a sink is the next of the strand's.
 fn part_at<P: LocalPacket, K: Sink>(
     pipes: &PipeList,
     shape: &Shape,
     i: usize,
+    value: Option<Value>,
     sinks: &mut SinkList<K>,
 ) -> Part<K>
     requires well_formed { IsWellFormed pipes.now }
     requires shape { CanBegin pipes.now shape.now }
     requires within { i < length shape.now.places.items }
+    requires value { value ≡ value_in pipes.now shape.now i }
     requires sinks { is_sink_in pipes.now shape.now i ≡ true → 0 < length sinks.old }
     ensures rest { sinks.new
         ≡ drop (if is_sink_in pipes.now shape.now i then 1 else 0) sinks.old }
@@ -262,7 +275,7 @@ fn part_at<P: LocalPacket, K: Sink>(
     ensures works { has_failed result ≡ false }
 {
     if i < shape.pipes {
-        part_of::<P, K>(&pipes.at(usize::from(shape.places[i])).kind, sinks)
+        part_of::<P, K>(&pipes.at(usize::from(shape.places[i])).kind, value, sinks)
     } else {
         Part::Outlet
     }
@@ -274,12 +287,14 @@ fn nodes_of<P: LocalPacket, K: Sink>(
     pipes: &PipeList,
     shape: &Shape,
     mut nodes: Vec<Node<P, K>>,
+    mut values: ValueList,
     mut sinks: SinkList<K>,
 ) -> Vec<Node<P, K>>
     requires well_formed { IsWellFormed pipes.now }
     requires shape { CanBegin pipes.now shape.now }
     requires empty { nodes.items ≡ [] }
     requires room { length shape.now.places.items ≤ vec_capacity nodes }
+    requires values { values ≡ map (value_at pipes.now) (own_in shape.now) }
     requires sinks { length sinks ≡ length (sink_places pipes.now shape.now) }
     ensures count { length result.items ≡ length shape.now.places.items }
     ensures begun { (i : ℕ) (d : Node P K) → i < length result.items
@@ -287,7 +302,8 @@ fn nodes_of<P: LocalPacket, K: Sink>(
         (told_of K.state (sink_places pipes.now shape.now) sinks) i (slice_index_or result.items i d) }
 {
     for i in 0..shape.places.len() {
-        let part = part_at::<P, K>(pipes, shape, i, &mut sinks);
+        let value = next_value(&mut values);
+        let part = part_at::<P, K>(pipes, shape, i, value, &mut sinks);
         nodes.push_reserved(Node::new(alloc, shape.inputs[i], shape.takers[i], part));
     }
     sinks.end();

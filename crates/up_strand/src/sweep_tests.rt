@@ -82,8 +82,8 @@ fn run_tree(
     let one = depot.open_sink("one").expect(rt, "no sink");
     let two = depot.open_sink("two").expect(rt, "no sink");
     let three = depot.open_sink("three").expect(rt, "no sink");
-    let dup = AnyModule::of::<VecPacket>(&Kind::Dup).expect(rt, "no module");
-    let skip = AnyModule::of::<VecPacket>(&Kind::Skip { bytes: 2 }).expect(rt, "no module");
+    let dup = AnyModule::of::<VecPacket>(&Kind::Dup, None).expect(rt, "no module");
+    let skip = AnyModule::of::<VecPacket>(&Kind::Skip { bytes: 2 }, None).expect(rt, "no module");
     let mut nodes = [
         Node::new(
             alloc,

@@ -1,11 +1,12 @@
 use crate::any_module::AnyModule;
 use crate::sink_packet::write_packet;
+use crate::values::value_of;
 use std::process::Abort;
 use std::test::Fail;
-use up_base::{AttrName, Refusal};
-use up_model::{Kind, Opt};
+use up_base::{AttrName, Refusal, Text};
+use up_model::{Kind, Opt, Value};
 use up_outside::{Depot, DepotCall, MemDepot, MemSink};
-use up_shape::{Command, LocalPacket, Module, Reply, VecPacket, VecStore};
+use up_shape::{Command, ControlRefused, LocalPacket, Module, Reply, VecPacket, VecStore};
 
 /// Writes a packet of seven bytes to the sink, and says what came of it.
 fn seven(rt: &impl Abort, sink: &mut MemSink, s: &mut VecStore) -> Result<(), Refusal> {
@@ -49,31 +50,71 @@ fn a_packet_of_the_greatest_size_is_written_whole(rt: HostRuntime) -> Result<(),
     Ok(())
 }
 
-/// What the module of a kind answers when it is asked for its offset.
-fn offset_of(rt: &impl Abort, mut m: AnyModule, s: &mut VecStore) -> Option<i128> {
+/// What the module of a kind, which was fed nothing, answers when it is asked for an option.
+fn option_of(
+    rt: &impl Abort,
+    mut m: AnyModule,
+    option: Opt,
+    s: &mut VecStore,
+) -> Result<Reply, ControlRefused> {
     assert!(rt; <AnyModule as Module<VecPacket>>::fresh(&m));
-    let answer = <AnyModule as Module<VecPacket>>::control(&mut m, Command::Get(Opt::Offset));
+    let answer = <AnyModule as Module<VecPacket>>::control(&mut m, Command::Get(option));
     <AnyModule as Module<VecPacket>>::give_up(m, s);
-    match answer {
-        Ok(Reply::Value(value)) => Some(value),
-        _ => None,
-    }
+    answer
 }
 
 #[test]
 fn a_module_has_the_options_of_its_kind(rt: HostRuntime) -> Result<(), Fail> {
-    let s = &mut VecStore::new(rt.alloc());
+    let alloc = rt.alloc();
+    let s = &mut VecStore::new(alloc);
     let attr = AttrName::read(b"key")?;
-    for (kind, offset) in [
-        (Kind::Idem, None),
-        (Kind::Null, None),
-        (Kind::Dup, None),
-        (Kind::Skip { bytes: 0 }, Some(0)),
-        (Kind::Skip { bytes: 1_048_576 }, Some(1_048_576)),
-        (Kind::DelAttr { attr }, None),
+    let value = Value::Words(Text::from_str(alloc, "film")?);
+    let (low, high) = (7, u64::MAX);
+    for (kind, option, answer) in [
+        (Kind::Idem, Opt::Offset, None),
+        (Kind::Null, Opt::Offset, None),
+        (Kind::Dup, Opt::Offset, None),
+        (Kind::Skip { bytes: 0 }, Opt::Offset, Some(0)),
+        (
+            Kind::Skip { bytes: 1_048_576 },
+            Opt::Offset,
+            Some(1_048_576),
+        ),
+        (Kind::SetAttr { attr, value }, Opt::Offset, None),
+        (Kind::DelAttr { attr }, Opt::Offset, None),
+        (Kind::MatchAttr { attr, low, high }, Opt::Low, Some(7)),
+        (
+            Kind::MatchAttr { attr, low, high },
+            Opt::High,
+            Some(18_446_744_073_709_551_615),
+        ),
+        (
+            Kind::MatchAttr {
+                attr,
+                low: 7,
+                high: 7,
+            },
+            Opt::High,
+            Some(7),
+        ),
+        (
+            Kind::Delay { by: i64::MIN },
+            Opt::By,
+            Some(-9_223_372_036_854_775_808),
+        ),
+        (
+            Kind::Delay { by: i64::MAX },
+            Opt::By,
+            Some(9_223_372_036_854_775_807),
+        ),
     ] {
-        let m = AnyModule::of::<VecPacket>(&kind).expect(&rt, "no module");
-        assert_eq!(rt; offset_of(&rt, m, s), offset);
+        let value = value_of(alloc, &kind)?;
+        let m = AnyModule::of::<VecPacket>(&kind, value).expect(&rt, "no module");
+        let wanted = answer.map_or(
+            Err(ControlRefused::Unhandled),
+            |value| Ok(Reply::Value(value)),
+        );
+        assert_eq!(rt; option_of(&rt, m, option, s), wanted);
     }
     Ok(())
 }

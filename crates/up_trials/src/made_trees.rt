@@ -55,13 +55,41 @@ fn made_end(dice: &mut Dice) -> Does {
     }
 }
 
-/// A pipe between others.
-fn made_between(dice: &mut Dice) -> Does {
-    match dice.roll(8) {
+/// The attributes that made pipes work on. Packets are given none of them in lanes.
+const ATTRS: [&str; 4] = ["date.sys", "date.sys", "date.orig", "rank"];
+
+/// A pipe that lets some of the packets pass that have such a number, or none of them.
+fn made_match(dice: &mut Dice, attr: &'static str, number: u64) -> Does {
+    let low = number.saturating_sub(u64::from(dice.roll(3)));
+    Does::MatchAttr {
+        attr,
+        low,
+        high: low.saturating_add(u64::from(dice.roll(6))),
+    }
+}
+
+/// A pipe that works on attributes, behind a pipe that does this.
+fn made_on_attrs(dice: &mut Dice, before: Does) -> Does {
+    let number = u64::from(dice.roll(4));
+    match (before, dice.roll(4)) {
+        (Does::SetAttr { attr, value }, 0 | 1) => made_match(dice, attr, value),
+        (Does::Delay(_) | Does::Dup, 0) => made_match(dice, ATTRS[0], number),
+        (_, 2) => Does::Delay(i64::from(dice.roll(5)) - 2),
+        _ => Does::SetAttr {
+            attr: ATTRS[dice.roll(4) as usize],
+            value: number,
+        },
+    }
+}
+
+/// A pipe between others, behind a pipe that does this.
+fn made_between(dice: &mut Dice, before: Does) -> Does {
+    match dice.roll(12) {
         0 | 1 | 2 => Does::Dup,
         3 | 4 => Does::Skip(dice.roll(5)),
         5 => Does::DelAttr,
-        _ => Does::Idem,
+        6 => Does::Idem,
+        _ => made_on_attrs(dice, before),
     }
 }
 
@@ -71,10 +99,10 @@ fn has_room(takers: u16, rest: u16, open: usize) -> bool {
     usize::from(takers).saturating_add(open) <= usize::from(rest)
 }
 
-/// A pipe, and how many take from it, where so many pipes are still to be made behind it and so many of them have an input
-/// already.
-fn made_pipe(dice: &mut Dice, rest: u16, open: usize) -> (Does, u16) {
-    let does = made_between(dice);
+/// A pipe behind a pipe that does this, and how many take from it, where so many pipes are still to be made behind it and
+/// so many of them have an input already.
+fn made_pipe(dice: &mut Dice, before: Does, rest: u16, open: usize) -> (Does, u16) {
+    let does = made_between(dice, before);
     let takers = match does {
         Does::Dup => (1 + dice.roll(3)) as u16,
         _ => 1,
@@ -131,13 +159,13 @@ fn made_tree(alloc: Global, dice: &mut Dice, limit: u64) -> Result<Vec<Row>, Fai
         let Some(input) = open.pop() else {
             return Ok(rows);
         };
-        let (does, takers) = made_pipe(dice, MOST - 1 - place, open.len());
         let before = rows
             .get(usize::from(input))
-            .map_or(WORKERS[0], |row| row.worker);
+            .map_or((Does::Idem, WORKERS[0]), |row| (row.does, row.worker));
+        let (does, takers) = made_pipe(dice, before.0, MOST - 1 - place, open.len());
         rows.push(Row {
             does,
-            worker: made_worker(dice, before),
+            worker: made_worker(dice, before.1),
             input: Some(input),
             queue: DEFAULT_QUEUE,
             caught: made_caught(dice),

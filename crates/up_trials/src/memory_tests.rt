@@ -15,14 +15,21 @@ use up_outside::{MemDepot, MemSink, MemSource};
 use up_shape::{VecPacket, VecStore};
 use up_strand::StrandParts;
 
-/// A source, a `dup` behind it, and behind that a sink, and a `skip` of two bytes to a sink.
-fn fan() -> [Row; 5] {
+/// A source, a `dup` behind it, and behind that a sink, and pipes that give packets a text and a
+/// number, move and match the number, and take two bytes off, to a sink.
+fn fan() -> [Row; 9] {
+    let attr = "date.sys";
+    let (low, high) = (3, 3);
     [
         pipe_row(CAPTURE, "one", None),
         pipe_row(Does::Dup, "one", Some(0)),
         pipe_row(Does::Sink, "one", Some(1)),
-        pipe_row(Does::Skip(2), "one", Some(1)),
-        pipe_row(Does::Sink, "one", Some(3)),
+        pipe_row(Does::Titles("film"), "one", Some(1)),
+        pipe_row(Does::SetAttr { attr, value: 5 }, "one", Some(3)),
+        pipe_row(Does::Delay(-2), "one", Some(4)),
+        pipe_row(Does::MatchAttr { attr, low, high }, "one", Some(5)),
+        pipe_row(Does::Skip(2), "one", Some(6)),
+        pipe_row(Does::Sink, "one", Some(7)),
     ]
 }
 

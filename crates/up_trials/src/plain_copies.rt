@@ -1,6 +1,7 @@
 // Packets and the plain packets that they stand for.
-ghost use Rattle.std.specs.Prelude.{◌≡◌};
+ghost use Rattle.std.specs.Prelude.{◌≡◌, IsTrue};
 ghost use Rattle.up_model.specs.Packet.{IsLegal};
+ghost use Rattle.up_model.specs.Value.{IsLegalValue, lent};
 
 use crate::run::packet_of;
 use std::alloc::Global;
@@ -49,8 +50,15 @@ pub(crate) fn plain_copy<P: LocalPacket>(rt: &impl Abort, alloc: Global, p: &P) 
     plain
 }
 
-/// Gives the packet this attribute, which is a flag.
-pub(crate) fn set_flag<P: LocalPacket>(
+/// Whether the value is a flag or a number, which are legal whatever they are.
+fn is_flag_or_number(value: ValueView<'_>) -> bool
+    ensures { IsTrue result → IsLegalValue (lent value) }
+{
+    matches!(value, ValueView::Flag(_) | ValueView::Unsigned(_))
+}
+
+/// Gives the packet this attribute, which is a flag or a number.
+pub(crate) fn give_attr<P: LocalPacket>(
     rt: &impl Abort,
     p: &mut P,
     name: &AttrName,
@@ -60,19 +68,17 @@ pub(crate) fn set_flag<P: LocalPacket>(
     ensures legal { IsLegal (P.plain p.new) }
     ensures family { (f : P.Store.Family) → P.fits p.old f → P.fits p.new f }
 {
-    let ValueView::Flag(flag) = value else {
-        panic!(rt; "no flag: {value:?}")
-    };
+    assert!(rt; is_flag_or_number(value), "{value:?}");
     packets_stay_legal();
     assert!(rt; !name.bytes().is_empty());
     assert!(rt; p.attr_count() < MAX_ATTRS);
-    match p.set_attr(name, ValueView::Flag(flag)) {
+    match p.set_attr(name, value) {
         Ok(()) => {}
         Err(NoMemory) => panic!(rt; "no memory"),
     }
 }
 
-/// A packet that stands for this plain one, whose attributes are flags.
+/// A packet that stands for this plain one, whose attributes are flags and numbers.
 pub(crate) fn packet_like<P: LocalPacket>(
     rt: &impl Abort,
     plain: &PlainPacket,
@@ -85,7 +91,7 @@ pub(crate) fn packet_like<P: LocalPacket>(
     let mut p = packet_of::<P>(rt, plain.bytes.as_slice(), s);
     for i in 0..plain.attrs.len() {
         let (name, value) = plain.attrs.at(i);
-        set_flag(rt, &mut p, &name, value);
+        give_attr(rt, &mut p, &name, value);
     }
     p
 }

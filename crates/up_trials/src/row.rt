@@ -3,14 +3,30 @@ use up_model::{CatchSet, DEFAULT_QUEUE, MAX_LIMIT};
 /// What a pipe of a test does.
 #[derive(Clone, Copy, Debug, PartialEq, Eq)]
 pub(crate) enum Does {
-    Source { block: u32, limit: u64 },
+    Source {
+        block: u32,
+        limit: u64,
+    },
     Sink,
     Idem,
     Null,
     Dup,
     Skip(u32),
+    /// Gives packets a number.
+    SetAttr {
+        attr: &'static str,
+        value: u64,
+    },
+    /// Gives packets a text as `title`.
+    Titles(&'static str),
     /// Takes the attribute `key` away.
     DelAttr,
+    MatchAttr {
+        attr: &'static str,
+        low: u64,
+        high: u64,
+    },
+    Delay(i64),
 }
 
 /// A pipe of a test. Its name, and its path where it has one, is `pipe` with its place.

@@ -16,7 +16,7 @@ use std::alloc::Global;
 use std::process::Abort;
 use std::test::Fail;
 use up_base::{AttrName, NoRoom, PipeName, Text, WorkerName};
-use up_model::{Graph, Kind, Pipe, PipeList, PlaceList, SinkForm, SourceForm};
+use up_model::{Graph, Kind, Pipe, PipeList, PlaceList, SinkForm, SourceForm, Value};
 use up_outside::{Depot, MemDepot, MemSink, MemSource};
 use up_plan::{Plan, make_plan};
 use up_shape::LocalPacket;
@@ -37,9 +37,23 @@ fn kind_of(alloc: Global, does: Does, path: &str) -> Result<Kind, Fail> {
         Does::Null => Kind::Null,
         Does::Dup => Kind::Dup,
         Does::Skip(bytes) => Kind::Skip { bytes },
+        Does::SetAttr { attr, value } => Kind::SetAttr {
+            attr: AttrName::read(attr.as_bytes())?,
+            value: Value::Unsigned(value),
+        },
+        Does::Titles(title) => Kind::SetAttr {
+            attr: AttrName::read(b"title")?,
+            value: Value::Words(Text::from_str(alloc, title)?),
+        },
         Does::DelAttr => Kind::DelAttr {
             attr: AttrName::read(b"key")?,
         },
+        Does::MatchAttr { attr, low, high } => Kind::MatchAttr {
+            attr: AttrName::read(attr.as_bytes())?,
+            low,
+            high,
+        },
+        Does::Delay(by) => Kind::Delay { by },
     })
 }
 

@@ -6,7 +6,7 @@ use std::string::String;
 use std::test::Fail;
 
 /// The bytes of a source and its fields, those of the pipe behind it, and the bytes of the sink behind that.
-const ROWS: [(&str, &str, &str, &str); 10] = [
+const ROWS: [(&str, &str, &str, &str); 13] = [
     ("abcdefg", "block = 3", "kind = 'skip', bytes = 2", "cf"),
     ("abcdef", "block = 2", "kind = 'skip', bytes = 1", "bdf"),
     ("abcdef", "block = 2", "kind = 'skip', bytes = 0", "abcdef"),
@@ -21,6 +21,14 @@ const ROWS: [(&str, &str, &str, &str); 10] = [
         "kind = 'delattr', attr = 'x'",
         "abcdef",
     ),
+    (
+        "abcdef",
+        "block = 5",
+        "kind = 'setattr', attr = 'x', value = 'film'",
+        "abcdef",
+    ),
+    ("abcdef", "block = 5", "kind = 'match_attr', attr = 'x'", ""),
+    ("abcdef", "block = 5", "kind = 'delay', by = -1", "abcdef"),
     ("abcdef", "limit = 6", "kind = 'dup'", "abcdef"),
 ];
 
@@ -46,6 +54,31 @@ fn each_kind_does_its_work_in_a_run(rt: HostRuntime) -> Result<(), Fail> {
             "{source} {between}"
         );
     }
+    Ok(())
+}
+
+/// A source, a number that its packets are given and that is moved, and two sinks, of which each takes the packets with some
+/// numbers.
+const NUMBERED: [&str; 8] = [
+    "name = 'in', kind = 'source', path = 'i', block = 4",
+    "name = 'dated', kind = 'setattr', attr = 'date.sys', value = 5, input = 'in'",
+    "name = 'moved', kind = 'delay', by = -2, input = 'dated'",
+    "name = 'both', kind = 'dup', input = 'moved'",
+    "name = 'three', kind = 'match_attr', attr = 'date.sys', low = 3, high = 3, input = 'both'",
+    "name = 'out', kind = 'sink', input = 'three', path = 'o'",
+    "name = 'later', kind = 'match_attr', attr = 'date.sys', low = 4, input = 'both'",
+    "name = 'out2', kind = 'sink', input = 'later', path = 'p'",
+];
+
+#[test]
+fn a_number_that_is_set_is_moved_and_matched_in_a_run(rt: HostRuntime) -> Result<(), Fail> {
+    let alloc = rt.alloc();
+    let text = pipes_text(alloc, &NUMBERED, 0, 1)?;
+    let mut depot = depot_of(alloc, text.as_bytes())?;
+    depot.hold("i", b"abcdef")?;
+    assert_eq!(rt; status_of(&rt, alloc, &RUN, &mut depot)?, 0);
+    assert_eq!(rt; depot.bytes("o"), Some(b"abcdef".as_slice()));
+    assert_eq!(rt; depot.bytes("p"), Some(b"".as_slice()));
     Ok(())
 }
 

@@ -1,6 +1,6 @@
 use Rattle.std.proofs.Common.{◌≡◌, ℕ, Bool, drop, get_or, ap, sym, ◌∙◌, arith, rules, cond, None}
 use Rattle.std.proofs.lemmas.List.{drop-drop, get_or_default, length-drop}
-use Rattle.up_strand.proofs.Begun.{more_at, next_sink, node_begins, one_more, sink_waits, sinks_before}
+use Rattle.up_strand.proofs.Begun.{more_at, next_owned, next_sink, node_begins, one_more, sink_waits, sinks_before}
 use Rattle.up_strand.specs.Making.{HasBegun, is_sink_in, seat_in, sink_places}
 use Rattle.up_strand.specs.StrandCalls.{told_of}
 use Rattle.up_strand.specs.declared.node.Part.TheVariants.{Sink}
@@ -11,6 +11,11 @@ part_at-part-requires-clause-sinks g c is =
     let waits = sink_waits c.args.pipes.now c.args.shape.now c.requires.shape c.args.sinks c.loop-i.i c.requires.sinks is in
     let before = sinks_before c.args.pipes.now c.args.shape.now c.loop-i.i in
     rw c.loop-i.invariant.rest (omega (arith, waits, length-drop before c.args.sinks))
+
+pub part_at-part-requires-clause-value : goal.part_at-part-requires-clause-value
+part_at-part-requires-clause-value g c =
+    c.next_value-value.ensures.first ∙ ap (λ l. get_or l 0 None) c.loop-i.invariant.values
+    ∙ next_owned c.args.pipes.now c.args.shape.now c.requires.shape c.args.values c.loop-i.i c.requires.values
 
 pub loop-i-preserved : goal.loop-i-preserved
 loop-i-preserved g c =
@@ -41,6 +46,7 @@ loop-i-preserved g c =
       count = search rules;
       room = search rules;
       begun = rw c.push_reserved.ensures.items (more_at (HasBegun pipes shape plain state told) c.loop-i.nodes.items c.new.result i inv.count inv.begun begins);
+      values = c.next_value-value.ensures.rest ∙ ap (drop 1) inv.values ∙ drop-drop 1 i c.args.values;
       rest = c.part_at-part.ensures.rest ∙ ap (drop more) inv.rest ∙ drop-drop more (sinks_before pipes shape i) sinks
           ∙ ap (λ n. drop n sinks) (sym (one_more pipes shape can i));
     }

@@ -15,5 +15,6 @@ invariant-loop-i g l =
       room : length l.shape.places.items ≤ vec_capacity l.nodes;
       begun : (i : ℕ) (d : Node _ _) → i < l.i
           → HasBegun l.pipes l.shape g.P.LocalPacket.plain state (told_of state (sink_places l.pipes l.shape) l.initial.sinks) i (get_or l.nodes.items i d);
+      values : l.values ≡ drop l.i l.initial.values;
       rest : l.sinks ≡ drop (sinks_before l.pipes l.shape l.i) l.initial.sinks;
     }

@@ -6,6 +6,7 @@ use Rattle.up_model.specs.Plans.{ends_at_sink, sinks_of, strand_of}
 use Rattle.up_strand.specs.Making.{caught_at}
 use Rattle.up_strand.specs.Rooms.{HasOnlyRoom}
 use Rattle.up_strand.specs.Shapes.{IsShapeOf}
+use Rattle.up_strand.specs.Values.{value_at}
 use Rattle.up_strand.proofs.Begun.{own_is, none_set}
 use Rattle.up_strand.proofs.making.Rooms.of.Goals as goal
 
@@ -17,6 +18,7 @@ returns-in-Ok g c =
     let own = own_is pipes c.args.head shape is in
     let test = passes_at ends_at_sink pipes in
     let places : take shape.pipes c.deref.result.now ≡ strand_of pipes c.args.head = ap (take shape.pipes) c.deref.ensures.value ∙ own in
+    let values : c.in_ok-values.values ≡ map (value_at pipes) (take shape.pipes c.deref.result.now) = c.in_ok-values.ensures in
     let caught : c.in_ok-caught.caught.items ≡ map (caught_at pipes) (take shape.pipes c.deref.result.now) = c.in_ok-caught.ensures in
     let closed : c.in_ok-closed.closed.items ≡ replicate c.len.result false = c.in_ok-closed.ensures in
     let len : c.len.result ≡ length shape.places.items = search rules in
@@ -25,6 +27,7 @@ returns-in-Ok g c =
       shape = is;
       empty = search rules;
       room = search rules;
+      values = values ∙ ap (λ all. map (value_at pipes) (take shape.pipes all)) c.deref.ensures.value;
       caught = caught ∙ ap (map (caught_at pipes)) places;
       closings = ap length closed ∙ length-replicate c.len.result false ∙ len;
       open_yet = λ i. rw closed (none_set c.len.result i);
