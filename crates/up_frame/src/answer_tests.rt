@@ -3,7 +3,7 @@ ghost use Rattle.up_model.specs.Packet.{IsLegal};
 ghost use Rattle.up_shape.specs.VecPackets.{plain_of};
 
 use crate::field_tests::{OPEN, OPEN_HEADS, behind_head};
-use crate::reader_tests::{TEN_AND_THREE, feed, take_all};
+use crate::reader_tests::{TEN_AND_THREE, damaged, feed, take_all};
 use crate::tests::{EACH_TYPE, LONGEST_NAME, NAMES, fresh, set_all, set_opaque, set_words, text};
 use crate::{BadFrame, FeedRefused, FrameReader, write_frame};
 use std::alloc::Global;
@@ -126,17 +126,6 @@ fn each_field_at_its_end_is_taken_in_any_pieces(rt: HostRuntime) -> Result<(), F
     Ok(())
 }
 
-/// The frame of five attributes with another byte at the place, behind a whole frame and before the front of another.
-fn assert_damaged(rt: &impl Abort, alloc: Global, place: usize, byte: u8) -> Result<(), Fail> {
-    assert!(rt; place < 58);
-    let mut bytes = Bytes::from_slice(alloc, &TEN_AND_THREE[..10])?;
-    bytes.append(&EACH_TYPE[..place])?;
-    bytes.push(byte)?;
-    bytes.append(&EACH_TYPE[place + 1..])?;
-    assert_told(rt, alloc, bytes.as_slice(), broken(10));
-    Ok(())
-}
-
 #[test]
 fn a_damaged_field_is_told_by_the_place_of_its_frame(rt: HostRuntime) -> Result<(), Fail> {
     let table = [
@@ -167,7 +156,9 @@ fn a_damaged_field_is_told_by_the_place_of_its_frame(rt: HostRuntime) -> Result<
         (53, 0x11),
     ];
     for (place, byte) in table {
-        assert_damaged(&rt, rt.alloc(), place, byte)?;
+        let mut bytes = damaged(&rt, rt.alloc(), place, byte)?;
+        bytes.append(&[0x46, 9])?;
+        assert_told(&rt, rt.alloc(), bytes.as_slice(), broken(10));
     }
     Ok(())
 }

@@ -18,7 +18,7 @@ use up_base::AttrName;
 use up_model::{MARK, NotWhole, VERSION};
 
 /// Judges the head of a frame.
-#[tactic(auto, unfolding(crate::specs::Fronts::packet_at))]
+#[tactic(auto, unfolding(up_model::specs::FrameFronts::packet_at))]
 fn head(bytes: &[u8]) -> Result<Judged, NotWhole>
     ensures within { IfOk result (λ judged. judged.at ≤ length bytes.now) }
     ensures front { Leads result bytes.now }

@@ -175,23 +175,28 @@ fn two_frames_are_read_at_each_cut(rt: HostRuntime) -> Result<(), Fail> {
     Ok(())
 }
 
-/// The frame with these bytes in place of its own from a place on, between two whole frames.
-fn assert_damaged(rt: &impl Abort, alloc: Global, place: usize, byte: u8) -> Result<(), Fail> {
+/// The frame of five attributes with another byte at the place, behind a whole frame.
+pub(crate) fn damaged(
+    rt: &impl Abort,
+    alloc: Global,
+    place: usize,
+    byte: u8,
+) -> Result<Bytes, Fail> {
     assert!(rt; place < 58);
     let mut bytes = Bytes::from_slice(alloc, &TEN_AND_THREE[..10])?;
     bytes.append(&EACH_TYPE[..place])?;
     bytes.push(byte)?;
     bytes.append(&EACH_TYPE[place + 1..58])?;
-    bytes.append(&TEN_AND_THREE[..10])?;
-    assert_read(rt, alloc, bytes.as_slice());
-    Ok(())
+    Ok(bytes)
 }
 
 #[test]
 fn each_byte_of_a_frame_changed_is_read_as_it_is_found(rt: HostRuntime) -> Result<(), Fail> {
     for (place, byte) in EACH_TYPE[..58].iter().enumerate() {
         for changed in [byte.wrapping_add(1), byte.wrapping_sub(1), 0, 255] {
-            assert_damaged(&rt, rt.alloc(), place, changed)?;
+            let mut bytes = damaged(&rt, rt.alloc(), place, changed)?;
+            bytes.append(&TEN_AND_THREE[..10])?;
+            assert_read(&rt, rt.alloc(), bytes.as_slice());
         }
     }
     Ok(())

@@ -233,7 +233,7 @@ fn content_of(
 }
 
 /// A value of this type behind its length, and what is behind it.
-#[tactic(auto, unfolding(crate::specs::Fronts::value_at))]
+#[tactic(auto, unfolding(up_model::specs::FrameFronts::value_at))]
 fn value(bytes: &[u8], type_: ValueType) -> Result<(ValueView<'_>, &[u8]), NotWhole>
     ensures { Finds (λ x. (lent x.0, x.1.now)) result (value_at type_ bytes.now) }
 {
@@ -242,7 +242,7 @@ fn value(bytes: &[u8], type_: ValueType) -> Result<(ValueView<'_>, &[u8]), NotWh
 }
 
 /// The name of an attribute behind another, its value, and what is behind the attribute.
-#[tactic(auto, unfolding(crate::specs::Fronts::attribute_at))]
+#[tactic(auto, unfolding(up_model::specs::FrameFronts::attribute_at))]
 pub(crate) fn attribute<'a>(
     bytes: &'a [u8],
     before: &[u8],
@@ -273,7 +273,7 @@ fn behind_attributes(bytes: &[u8], count: u16) -> Result<&[u8], NotWhole>
 }
 
 /// So many attributes and so many bytes, and what is behind them.
-#[tactic(auto, unfolding(crate::specs::Fronts::content_at))]
+#[tactic(auto, unfolding(up_model::specs::FrameFronts::content_at))]
 fn content(bytes: &[u8], count: u16, size: u32) -> Result<(FrameParts<'_>, &[u8]), NotWhole>
     requires count { count ≤ MAX_ATTRS }
     requires size { size ≤ MAX_PACKET }
@@ -290,7 +290,7 @@ fn content(bytes: &[u8], count: u16, size: u32) -> Result<(FrameParts<'_>, &[u8]
 }
 
 /// The parts of the frame at the front, and what is behind it.
-#[tactic(auto, unfolding(crate::specs::Fronts::packet_at))]
+#[tactic(auto, unfolding(up_model::specs::FrameFronts::packet_at))]
 fn parts(bytes: &[u8]) -> Result<(FrameParts<'_>, &[u8]), NotWhole>
     ensures { Parted result (packet_at bytes.now) }
 {
