@@ -52,7 +52,7 @@ pub(crate) fn plain_copy<P: LocalPacket>(rt: &impl Abort, alloc: Global, p: &P) 
 
 /// Whether the value is a flag or a number, which are legal whatever they are.
 fn is_flag_or_number(value: ValueView<'_>) -> bool
-    ensures { IsTrue result → IsLegalValue (lent value) }
+    ensures { IsTrue result → IsLegalValue (lent value.entry) }
 {
     matches!(value, ValueView::Flag(_) | ValueView::Unsigned(_))
 }
