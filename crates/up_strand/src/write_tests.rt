@@ -1,6 +1,7 @@
 use crate::any_module::AnyModule;
 use crate::sink_packet::write_packet;
 use crate::values::value_of;
+use std::alloc::Global;
 use std::process::Abort;
 use std::test::Fail;
 use up_base::{AttrName, Refusal, Text};
@@ -63,6 +64,13 @@ fn option_of(
     answer
 }
 
+/// The module of a kind whose fields are within their bounds.
+fn module_of(rt: &impl Abort, alloc: Global, kind: &Kind) -> AnyModule {
+    assert!(rt; kind.is_within_bounds());
+    let value = value_of(alloc, kind).expect(rt, "no memory");
+    AnyModule::of::<VecPacket>(kind, value).expect(rt, "no module")
+}
+
 #[test]
 fn a_module_has_the_options_of_its_kind(rt: HostRuntime) -> Result<(), Fail> {
     let alloc = rt.alloc();
@@ -108,8 +116,7 @@ fn a_module_has_the_options_of_its_kind(rt: HostRuntime) -> Result<(), Fail> {
             Some(9_223_372_036_854_775_807),
         ),
     ] {
-        let value = value_of(alloc, &kind)?;
-        let m = AnyModule::of::<VecPacket>(&kind, value).expect(&rt, "no module");
+        let m = module_of(&rt, alloc, &kind);
         let wanted = answer.map_or(
             Err(ControlRefused::Unhandled),
             |value| Ok(Reply::Value(value)),
