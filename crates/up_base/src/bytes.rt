@@ -53,6 +53,13 @@ impl Bytes {
         Ok(())
     }
 
+    /// Takes all bytes out. The room stays for the next.
+    pub fn clear(&mut self)
+        ensures { self.new ≡ [] }
+    {
+        self.run.clear();
+    }
+
     pub fn as_slice(&self) -> &[u8]
         ensures { result.now ≡ self.now }
     {

@@ -1,5 +1,5 @@
 -- Worked examples of `delay`, computed.
-use Rattle.std.proofs.Common.{◌≡◌, ◌∷◌, [], List, ℕ, ℤ, ◌-◌, ◌^◌, pos, negsuc, Option, Some, None, not, true, refl, ap, sym, ◌∙◌}
+use Rattle.std.proofs.Common.{◌≡◌, ◌∷◌, [], List, ℕ, ℤ, ◌-◌, ◌^◌, pos, negsuc, Option, Some, None, not, true, refl, ap, sym}
 use Rattle.std.specs.Prelude.{codes, option_and_then, ◌+ℤ◌}
 use Rattle.std.specs.FinMap.{get-from_sorted}
 use Rattle.std.specs.FinMap.Entries.{find, put, where_key}
@@ -14,7 +14,7 @@ use Rattle.up_model.specs.Value.{unsigned_of}
 use Rattle.up_model.specs.declared.date_kind.DateKind.TheVariants.{Sys, Prog, Orig}
 use Rattle.up_model.specs.declared.kind.Kind.TheVariants.{Delay}
 use Rattle.up_model.specs.declared.opt.Opt.TheVariants.{Mtu, Align, Offset, Low, High, By, Sync}
-use Rattle.up_model.specs.declared.value.Value.TheVariants.{Void, Flag, Unsigned, Words, Opaque}
+use Rattle.up_model.specs.declared.value.Value.TheVariants.{Void, Flag, Unsigned, Words}
 use Rattle.up_model.specs.declared.verdict.Verdict.TheVariants.{Passes}
 
 -- the packet `ab` with these attributes

@@ -3,13 +3,14 @@ use Rattle.std.proofs.Common.{ℕ, [], ◌++◌, List, refl, arith, length-appen
 use Rattle.std.proofs.lemmas.List.Elements.{All-nil}
 use Rattle.up_base.specs.Lists.{IsPrefix}
 use Rattle.up_model.proofs.Lawful.{IsLawful, KeepsFlows, no_options_kept, stands_for_itself}
-use Rattle.up_model.proofs.Joined.{joined-append}
+use Rattle.up_model.proofs.Joined.{joined-append, frames_of-append}
 use Rattle.up_model.specs.Ends.{end_meaning, written_by}
+use Rattle.up_model.specs.FrameSpelling.{frames_of}
 use Rattle.up_model.specs.Packet.{Flow, IsLegal, joined}
 use Rattle.up_model.specs.Tallies.{IsAtMost, of_taken}
 use Rattle.up_model.specs.declared.fan_out.FanOut.{FanOut}
 use Rattle.up_model.specs.declared.form.SinkForm.{SinkForm}
-use Rattle.up_model.specs.declared.form.SinkForm.TheVariants.{Raw}
+use Rattle.up_model.specs.declared.form.SinkForm.TheVariants.{Raw, Framed}
 use Rattle.up_model.specs.declared.form.SourceForm.{SourceForm}
 use Rattle.up_model.specs.declared.kind.Kind.TheVariants.{Source, Sink}
 
@@ -24,11 +25,12 @@ sums_grow taken more = record {
 }
 
 -- what is written of more packets goes on with what was written of the first
-abbrev WritesOn : (Flow → List ℕ) → Type 0
+abbrev pub WritesOn : (Flow → List ℕ) → Type 0
 WritesOn written = (taken more : Flow) → IsPrefix (written taken) (written (taken ++ more))
 
-sink_writes_on : (form : SinkForm) → WritesOn (written_by form)
+pub sink_writes_on : (form : SinkForm) → WritesOn (written_by form)
 sink_writes_on Raw taken more = (joined more, joined-append taken more)
+sink_writes_on Framed taken more = (frames_of more, frames_of-append taken more)
 
 ends_keep : (IsWithin : Type 0) (fan_out : FanOut) (written : Flow → List ℕ) → WritesOn written → KeepsFlows (end_meaning IsWithin fan_out written)
 ends_keep IsWithin fan_out written writes_on = record {

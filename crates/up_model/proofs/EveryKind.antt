@@ -1,14 +1,24 @@
 -- Every kind keeps the laws: one row a kind.
-use Rattle.std.proofs.Common.{refl}
+use Rattle.std.proofs.Common.{◌≡◌, true, refl}
 use Rattle.up_model.proofs.DelAttr.{delattr_is_lawful}
 use Rattle.up_model.proofs.Delay.{delay_is_lawful}
 use Rattle.up_model.proofs.Ends.{source_is_lawful, sink_is_lawful}
 use Rattle.up_model.proofs.Lawful.{IsLawful, by_packets, no_options_kept, stands_for_itself}
 use Rattle.up_model.proofs.MatchAttr.{match_attr_is_lawful}
+use Rattle.up_model.proofs.Packetwise.{work_puts_or_drops}
 use Rattle.up_model.proofs.SetAttr.{setattr_is_lawful}
 use Rattle.up_model.proofs.Skip.{skip_is_lawful}
+use Rattle.up_model.specs.DelAttr.{delattr_step}
+use Rattle.up_model.specs.Delay.{delay_step}
+use Rattle.up_model.specs.Ends.{is_between}
 use Rattle.up_model.specs.KindMeaning.{no_options}
+use Rattle.up_model.specs.Kinds.{work_of}
+use Rattle.up_model.specs.MatchAttr.{match_attr_step}
+use Rattle.up_model.specs.Packet.{Flow}
 use Rattle.up_model.specs.Packetwise.{passes_on, drops}
+use Rattle.up_model.specs.SetAttr.{setattr_step}
+use Rattle.up_model.specs.Skip.{skip_step}
+use Rattle.up_model.specs.Work.{PutsOrDrops}
 use Rattle.up_model.specs.declared.fan_out.FanOut.TheVariants as fans
 use Rattle.up_model.specs.declared.kind.Kind.{Kind}
 use Rattle.up_model.specs.declared.kind.Kind.TheVariants.{Source, Sink, Idem, Null, Dup, Skip, SetAttr, DelAttr, MatchAttr, Delay}
@@ -45,3 +55,16 @@ lawful (SetAttr attr value) = setattr_is_lawful attr value
 lawful (DelAttr attr) = delattr_is_lawful attr
 lawful (MatchAttr attr low high) = match_attr_is_lawful attr low high
 lawful (Delay by) = delay_is_lawful by
+
+-- a kind between the ends puts out or drops each packet that it takes
+pub puts_or_drops : (kind : Kind) (taken : Flow) → is_between kind ≡ true → PutsOrDrops (work_of kind taken)
+puts_or_drops (Source path form limit) taken between = absurd (cc)
+puts_or_drops (Sink path form) taken between = absurd (cc)
+puts_or_drops Idem taken between = work_puts_or_drops passes_on taken
+puts_or_drops Null taken between = work_puts_or_drops drops taken
+puts_or_drops Dup taken between = work_puts_or_drops passes_on taken
+puts_or_drops (Skip bytes) taken between = work_puts_or_drops (skip_step bytes) taken
+puts_or_drops (SetAttr attr value) taken between = work_puts_or_drops (setattr_step attr value) taken
+puts_or_drops (DelAttr attr) taken between = work_puts_or_drops (delattr_step attr) taken
+puts_or_drops (MatchAttr attr low high) taken between = work_puts_or_drops (match_attr_step attr low high) taken
+puts_or_drops (Delay by) taken between = work_puts_or_drops (delay_step by) taken

@@ -13,7 +13,7 @@ use Rattle.up_model.specs.declared.plain_packet.PlainPacket.{PlainPacket}
 use Rattle.up_model.specs.declared.value.Value.TheVariants.{Void, Unsigned}
 
 -- a packet with these attributes
-abbrev with : List Attr → List ℕ → PlainPacket
+abbrev pub with : List Attr → List ℕ → PlainPacket
 with list bytes = record { attrs = attrs_of list; bytes = bytes }
 
 -- a map doesn't compute: its list in order does
@@ -23,11 +23,11 @@ framed list bytes order =
     ap (λ count. head_bytes count (length bytes) ++ flat_map attribute_bytes (entries (attrs_of list)) ++ bytes) (len-list list order)
     ∙ ap (λ attrs. head_bytes (length list) (length bytes) ++ flat_map attribute_bytes attrs ++ bytes) (entries-from_sorted by_name list order)
 
-bare : (bytes : List ℕ) → plain bytes ≡ with [] bytes
+pub bare : (bytes : List ℕ) → plain bytes ≡ with [] bytes
 bare bytes = ap (λ attrs. record { attrs = attrs; bytes = bytes }) (sym (no_attrs [] refl))
 
 -- the frame of `ab` without attributes
-abbrev ab : List ℕ
+abbrev pub ab : List ℕ
 ab = 0x46 ∷ 1 ∷ 0 ∷ 0 ∷ 0 ∷ 0 ∷ 0 ∷ 2 ∷ 97 ∷ 98 ∷ []
 
 pub two_bytes : frame_of (plain (codes "ab")) ≡ ab

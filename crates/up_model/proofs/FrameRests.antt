@@ -1,5 +1,5 @@
 -- The rest of bytes: where it is broken, where the bytes are cut, and what more bytes leave.
-use Rattle.std.proofs.Common.{◌≡◌, ℕ, ◌+◌, ◌-◌, ◌<◌, List, [], ◌∷◌, ◌++◌, length, append-nil, Some, None, Err, refl, sym, ap, subst, ◌∙◌, arith}
+use Rattle.std.proofs.Common.{◌≡◌, ℕ, ◌-◌, ◌<◌, List, [], ◌∷◌, ◌++◌, length, append-nil, Some, None, Err, refl, sym, ap, subst, ◌∙◌, arith}
 use Rattle.up_model.proofs.FrameMoreBytes.{grown, is_broken}
 use Rattle.up_model.proofs.FrameSteady.{Stays, packet_steady}
 use Rattle.up_model.proofs.FrameStreams.{nothing_at_end, none_is}

@@ -126,6 +126,27 @@ framed_parts (packet ∷ flow) bytes rest framed =
       framed.1.1 ∙ ap (λ (b : List ℕ). frame_of packet ++ b) others.1 ∙ sym (append_assoc (frame_of packet) (frames_of flow) rest),
     )
 
+-- the packets of the whole frames are legal
+pub frames_are_legal : (bytes : List ℕ) → AreBytes bytes → All IsLegal (whole_frames bytes)
+frames_are_legal bytes below =
+    (framed_parts (whole_frames bytes) bytes (rest_of_frames bytes) (all_within (length bytes) bytes (omega arith) below).framed).0
+
+-- there are no more of them than bytes
+few_within : (n : ℕ) (bytes : List ℕ) → length (stream_within n bytes).flow ≤ length bytes
+few_within zero bytes = omega arith
+few_within (suc n) bytes = next (λ rest. few_within n rest) (packet_at bytes) refl
+  where
+    next : ((rest : List ℕ) → length (stream_within n rest).flow ≤ length rest) → (front : Front PlainPacket) → packet_at bytes ≡ front
+        → length (stream_by (stream_within n) bytes front).flow ≤ length bytes
+    next others (Ok x) e =
+        let fewer = packet_shrinks bytes x e in
+        let rest = others x.1 in
+        omega (arith, fewer, rest)
+    next others (Err refused) e = omega arith
+
+pub few_frames : (bytes : List ℕ) → length (whole_frames bytes) ≤ length bytes
+few_frames bytes = few_within (length bytes) bytes
+
 -- the bytes before the rest are the whole frames
 pub whole_front : (bytes : List ℕ) (place : ℕ) → AreBytes bytes → place ≤ length bytes → rest_of_frames bytes ≡ drop place bytes
     → All IsLegal (whole_frames bytes) × (take place bytes ≡ frames_of (whole_frames bytes))

@@ -4,6 +4,7 @@ pub mod Blocks
 pub mod Carried
 pub mod CarriedFlows
 pub mod Chains
+pub mod Counting
 pub mod Cuts
 pub mod CuttingExamples
 pub mod DelAttr
@@ -27,6 +28,7 @@ pub mod FrameShorter
 pub mod FrameSteady
 pub mod FrameStreams
 pub mod FrameValues
+pub mod FramedExamples
 pub mod GraphFlows
 pub mod GrownBytes
 pub mod InputsExamples
@@ -50,11 +52,14 @@ pub mod PlainExamples
 pub mod PlainFlows
 pub mod PlainKinds
 pub mod PlainLegal
+pub mod PlainReading
+pub mod PlainSpelling
 pub mod PlainSteps
 pub mod SetAttr
 pub mod SetAttrExamples
 pub mod Shares
 pub mod SharesExamples
+pub mod Shown
 pub mod Skip
 pub mod SkipExamples
 pub mod SortedEntries

@@ -5,7 +5,6 @@ use Rattle.std.specs.FinMap.{get-from_sorted}
 use Rattle.std.specs.FinMap.Entries.{find}
 use Rattle.std.specs.Int.RustNames.{unsigned_abs}
 use Rattle.up_model.proofs.AttrLists.{Attr, HasOrder, by_name, attrs_of}
-use Rattle.up_model.specs.KindMeaning.{admits}
 use Rattle.up_model.specs.Kinds.{IsWithinBounds, setting_of, with_option, settled_work, work_of}
 use Rattle.up_model.specs.MatchAttr.{lies_within, match_attr_step}
 use Rattle.up_model.specs.Packet.{Flow, PlainPacket}

@@ -5,7 +5,7 @@ use Rattle.std.proofs.lemmas.List.Elements.{All-cons, All-head, All-tail}
 use Rattle.up_model.specs.Packet.{PlainPacket, Flow, IsLegal, joined}
 use Rattle.up_model.specs.Packetwise.{Step, put_of, sums_of, passed, summed, work_by, passes_on, IfPasses}
 use Rattle.up_model.specs.Tallies.{nothing, plus, IsAtMost, of_passed, of_dropped}
-use Rattle.up_model.specs.Work.{Work, Counts, CutsTheRest}
+use Rattle.up_model.specs.Work.{Work, Counts, CutsTheRest, PutsOrDrops}
 use Rattle.up_model.specs.declared.verdict.Verdict.{Verdict}
 use Rattle.up_model.specs.declared.verdict.Verdict.TheVariants.{Passes, Drops}
 use Rattle.up_model.specs.declared.tally.Tally.{Tally}
@@ -132,3 +132,22 @@ cut_of_next packet Drops sums rest taken is before = omega (arith, length-append
 pub work_cuts : (step : Step) → ((packet : PlainPacket) → IsCutOf packet (step packet)) → (taken : Flow) → CutsTheRest (work_by step taken) taken
 work_cuts step is [] = refl
 work_cuts step is (packet ∷ taken) = cut_of_next packet (step packet) (summed step taken) (passed step taken) taken (is packet) (work_cuts step is taken)
+
+-- a packet that was taken is put out or dropped
+put_or_dropped : (packet : PlainPacket) (p : Verdict PlainPacket) (sums : Tally) (rest : Flow) → PutsOrDrops (record { flow = rest; tally = sums })
+    → PutsOrDrops (record { flow = cons_option (put_of p) rest; tally = plus (sums_of packet p) sums })
+put_or_dropped packet (Passes put cut) sums rest before = record {
+  packets = omega (arith, before.packets);
+  gained = omega (arith, before.gained);
+  lost = omega (arith, before.lost);
+}
+put_or_dropped packet Drops sums rest before = record {
+  packets = omega (arith, before.packets);
+  gained = omega (arith, before.gained);
+  lost = omega (arith, before.lost);
+}
+
+pub work_puts_or_drops : (step : Step) (taken : Flow) → PutsOrDrops (work_by step taken)
+work_puts_or_drops step [] = record { packets = refl; gained = refl; lost = refl }
+work_puts_or_drops step (packet ∷ taken) =
+    put_or_dropped packet (step packet) (summed step taken) (passed step taken) (work_puts_or_drops step taken)

@@ -1,8 +1,8 @@
 -- Worked examples of what a consumer takes of an output, computed.
-use Rattle.std.proofs.Common.{◌≡◌, ℕ, ◌+◌, ◌/◌, ◌%◌, List, [], ◌∷◌, ◌++◌, Some, None, replicate, refl}
+use Rattle.std.proofs.Common.{◌≡◌, ℕ, ◌+◌, ◌/◌, ◌%◌, [], ◌∷◌, Some, None, replicate, refl}
 use Rattle.std.specs.Prelude.{codes}
 use Rattle.up_model.specs.Packet.{PlainPacket, Flow, plain}
-use Rattle.up_model.specs.Shares.{has_pid, of_pid, share_by}
+use Rattle.up_model.specs.Shares.{of_pid, share_by}
 use Rattle.up_model.specs.declared.fan_out.FanOut.TheVariants as fans
 
 -- a transport stream packet of this PID, with one flag and a counter beside it

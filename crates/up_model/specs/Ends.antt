@@ -3,6 +3,7 @@
 use Rattle.std.specs.Prelude.{◌≡◌, ℕ, ◌≤◌, Bool, true, false, ◌&&◌, not, nat_le, ◌==◌, [], List, length, Option, Some, None}
 use Rattle.std.specs.List.{list_any}
 use Rattle.std.specs.Str.{bytes_eq, is_utf8}
+use Rattle.up_model.specs.FrameSpelling.{frames_of}
 use Rattle.up_model.specs.KindMeaning.{KindMeaning, no_options, no_stand_in, writes_nothing}
 use Rattle.up_model.specs.Packet.{Flow, joined}
 use Rattle.up_model.specs.Tallies.{of_taken}
@@ -28,13 +29,16 @@ IsPath path = (is_utf8 path ≡ true) × (is_path path ≡ true)
 -- blocks have at least one byte
 abbrev pub IsSourceForm : SourceForm → Type 0
 IsSourceForm (source_forms.Raw block) = (1 ≤ block) × (block ≤ MAX_BLOCK)
+IsSourceForm source_forms.Framed = Unit {0}
 
 abbrev pub IsSinkForm : SinkForm → Type 0
 IsSinkForm sink_forms.Raw = Unit {0}
+IsSinkForm sink_forms.Framed = Unit {0}
 
 -- the bytes that a sink of the form writes of what it takes
 abbrev pub written_by : SinkForm → Flow → List ℕ
 written_by sink_forms.Raw taken = joined taken
+written_by sink_forms.Framed taken = frames_of taken
 
 -- a kind at an end of a graph, by what its fields keep, whom it feeds, and the bytes that it writes
 abbrev pub end_meaning : Type 0 → FanOut → (Flow → List ℕ) → KindMeaning

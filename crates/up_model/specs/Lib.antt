@@ -18,6 +18,7 @@ pub mod OptionValues
 pub mod Outcomes
 pub mod Packet
 pub mod Packetwise
+pub mod PlainFrames
 pub mod Plans
 pub mod Rules
 pub mod SetAttr

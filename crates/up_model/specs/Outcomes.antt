@@ -1,34 +1,56 @@
 -- How the pipes of a graph end, and what a source then carried.
-use Rattle.std.specs.Prelude.{ℕ, Bool, true, false, List, [], length, take, position, nat_lt, slice_get, Option, Some, None, option_and_then, unwrap_or, if◌then◌else◌}
-use Rattle.std.specs.Option.{option_map_or}
+use Rattle.std.specs.Prelude.{ℕ, Bool, true, false, List, [], length, take, position, nat_lt, slice_get, Option, Some, None, option_and_then, option_map, unwrap_or, if◌then◌else◌}
+use Rattle.std.specs.Option.{option_map_or, option_or}
 use Rattle.up_model.specs.Cutting.{blocks, full_blocks}
+use Rattle.up_model.specs.FrameStreams.{broken_at, cut_at, whole_frames}
 use Rattle.up_model.specs.Inputs.{source_of}
 use Rattle.up_model.specs.Packet.{Flow}
 use Rattle.up_model.specs.declared.kind.Kind.{Kind}
 use Rattle.up_model.specs.declared.kind.Kind.TheVariants.{Source, Sink}
 use Rattle.up_model.specs.declared.form.SourceForm.{SourceForm}
-use Rattle.up_model.specs.declared.form.SourceForm.TheVariants.{Raw}
+use Rattle.up_model.specs.declared.form.SourceForm.TheVariants.{Raw, Framed}
 use Rattle.up_model.specs.declared.outcome.Outcome.{Outcome}
-use Rattle.up_model.specs.declared.outcome.Outcome.TheVariants.{Whole, ReadFault, WriteFault, TooLong, Broken, NoMemory}
+use Rattle.up_model.specs.declared.outcome.Outcome.TheVariants.{Whole, ReadFault, WriteFault, BadFrame, TooLong, Broken, NoMemory}
 use Rattle.up_model.specs.declared.pipe.Pipe.{Pipe}
 
--- a source of the form that could give these bytes, where no read fails: too long where there are more than the limit, else whole
+-- there are more bytes than the limit
+abbrev pub too_long : ℕ → List ℕ → Option Outcome
+too_long limit bytes = if nat_lt limit (length bytes) then Some (TooLong limit) else None
+
+-- the outcome that bytes of the form show whatever comes behind them: a frame that is broken within the limit, else a byte past it
+abbrev pub shown_by : SourceForm → ℕ → List ℕ → Option Outcome
+shown_by (Raw block) limit bytes = too_long limit bytes
+shown_by Framed limit bytes =
+    option_or (option_map BadFrame (broken_at (take limit bytes))) (too_long limit bytes)
+
+-- the outcome where these are all bytes, and they show none: frames may be unfinished
+abbrev pub outcome_at_end : SourceForm → List ℕ → Outcome
+outcome_at_end (Raw block) bytes = Whole
+outcome_at_end Framed bytes = option_map_or BadFrame (cut_at bytes) Whole
+
+-- the outcome of a source of the form that could give these bytes, where no read fails
 abbrev pub source_outcome : SourceForm → ℕ → List ℕ → Outcome
-source_outcome (Raw block) limit bytes =
-    if nat_lt limit (length bytes) then TooLong limit else Whole
+source_outcome form limit bytes = unwrap_or (shown_by form limit bytes) (outcome_at_end form bytes)
 
 -- the packets that bytes of the form hold, where these are all of them
 abbrev pub packets_of : SourceForm → List ℕ → Flow
 packets_of (Raw block) bytes = blocks block bytes
+packets_of Framed bytes = whole_frames bytes
 
 -- those that are settled: they hold them whatever comes after
 abbrev pub settled_packets_of : SourceForm → List ℕ → Flow
 settled_packets_of (Raw block) bytes = full_blocks block bytes
+settled_packets_of Framed bytes = whole_frames bytes
 
 -- where no read fails: as a source of its form; a pipe that is no source is whole
 abbrev pub outcome_of : Kind → List ℕ → Outcome
 outcome_of (Source path form limit) bytes = source_outcome form limit bytes
 outcome_of kind bytes = Whole
+
+-- what the bytes of a source show whatever comes behind them; those of a pipe that is no source show nothing
+abbrev pub shown_of : Kind → List ℕ → Option Outcome
+shown_of (Source path form limit) bytes = shown_by form limit bytes
+shown_of kind bytes = None
 
 -- the packets of a source's bytes, where these are all of them; a pipe that is no source carries nothing of its own
 abbrev pub source_flow : Kind → List ℕ → Flow
@@ -45,6 +67,7 @@ settled_source_flow kind bytes = []
 abbrev pub carried_as : Outcome → Kind → List ℕ → Flow
 carried_as Whole kind bytes = source_flow kind bytes
 carried_as ReadFault kind bytes = settled_source_flow kind bytes
+carried_as (BadFrame offset) kind bytes = settled_source_flow kind bytes
 carried_as (TooLong limit) kind bytes = settled_source_flow kind (take limit bytes)
 carried_as WriteFault kind bytes = settled_source_flow kind bytes
 carried_as Broken kind bytes = settled_source_flow kind bytes
@@ -73,6 +96,7 @@ abbrev pub outcome_behind : Outcome → Outcome
 outcome_behind Whole = Whole
 outcome_behind ReadFault = Broken
 outcome_behind WriteFault = Broken
+outcome_behind (BadFrame offset) = Broken
 outcome_behind (TooLong limit) = Broken
 outcome_behind Broken = Broken
 outcome_behind NoMemory = Broken
@@ -105,6 +129,7 @@ abbrev pub is_cause : Outcome → Bool
 is_cause Whole = false
 is_cause ReadFault = true
 is_cause WriteFault = true
+is_cause (BadFrame offset) = true
 is_cause (TooLong limit) = true
 is_cause Broken = false
 is_cause NoMemory = false

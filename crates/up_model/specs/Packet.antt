@@ -1,6 +1,6 @@
 -- Packets: a finite map from names to values, and a list of bytes.
-use Rattle.std.specs.Prelude.{◌≡◌, ℕ, ◌≤◌, true, List, length, map, All}
-use Rattle.std.specs.List.{concat}
+use Rattle.std.specs.Prelude.{◌≡◌, ℕ, ◌≤◌, true, List, length, map, nat_lt, All}
+use Rattle.std.specs.List.{concat, filter}
 use Rattle.std.specs.FinMap.{empty, keys, values as values_of, len}
 use Rattle.up_base.specs.Name.{is_name}
 use Rattle.up_model.specs.Value.{IsLegalValue}
@@ -22,6 +22,10 @@ pub record IsLegal (packet : PlainPacket) : Type 0 where
   pub names : All (λ name. is_name name ≡ true) (keys packet.attrs)
   pub values : All IsLegalValue (values_of packet.attrs)
   pub size : length packet.bytes ≤ MAX_PACKET
+
+-- how many of the packets have bytes
+abbrev pub count_with_bytes : Flow → ℕ
+count_with_bytes flow = length (filter (λ packet. nat_lt 0 (length packet.bytes)) flow)
 
 -- the bytes of the packets, one after the other
 abbrev pub joined : Flow → List ℕ

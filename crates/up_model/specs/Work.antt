@@ -19,3 +19,9 @@ pub record Counts (work : Work) (taken : Flow) : Type 0 where
 -- the bytes that weren't put out were cut
 abbrev pub CutsTheRest : Work → Flow → Type 0
 CutsTheRest work taken = work.tally.cut + length (joined work.flow) ≡ length (joined taken)
+
+-- each packet that was taken was put out or dropped, and none was gained or lost
+pub record PutsOrDrops (work : Work) : Type 0 where
+  pub packets : work.tally.put + work.tally.dropped ≡ work.tally.taken
+  pub gained : work.tally.gained ≡ 0
+  pub lost : work.tally.lost ≡ 0

@@ -2,6 +2,7 @@
 ghost use Rattle.std.specs.Prelude.{◌≡◌, ◌<◌, ◌≤◌, ◌++◌, [], ℕ, false, List, All, length, slice_get, Some};
 ghost use Rattle.std.specs.Option.{IsSome};
 ghost use Rattle.up_base.specs.Lists.{IsPrefix};
+ghost use Rattle.up_base.specs.Number.{AreBytes};
 ghost use Rattle.up_model.specs.Ends.{is_source, path_of};
 ghost use Rattle.up_model.specs.Inputs.{PipeTest, consumer_count, reached_within, reached, source_of};
 ghost use Rattle.up_model.specs.Kinds.{IsWithinBounds, fan_out_of};
@@ -133,7 +134,7 @@ pub fn carried_bytes_come_first()
         (sink_bytes pipes (source_flows pipes (λ source. bytes source ++ more source)) sink) }
 {}
 
-/// In a well-formed graph all packets are legal where those of the sources are.
+/// In a well-formed graph all packets are legal where those of the sources are, and these are legal where they are made of bytes.
 pub fn flows_stay_legal()
     ensures put { (pipes : List ThePipe) (given : ℕ → Flow) (place : ℕ) → IsWellFormed pipes
         → ((source : ℕ) → All IsLegal (given source)) → All IsLegal (flow_at pipes given place) }
@@ -146,5 +147,6 @@ pub fn flows_stay_legal()
         → IsWellFormed pipes → ((source : ℕ) → All IsLegal (given source))
         → All IsLegal (settled_input pipes given pipe) }
     ensures sources { (pipes : List ThePipe) (ends : ℕ → TheOutcome) (bytes : ℕ → List ℕ)
-        (place : ℕ) → IsWellFormed pipes → All IsLegal (carried_flows pipes ends bytes place) }
+        (place : ℕ) → IsWellFormed pipes → AreBytes (bytes place)
+        → All IsLegal (carried_flows pipes ends bytes place) }
 {}

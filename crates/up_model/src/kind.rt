@@ -154,9 +154,14 @@ impl Kind {
                 form: SourceForm::Raw { block },
                 limit,
             } => is_path(path) && 1 <= *block && *block <= MAX_BLOCK && *limit <= MAX_LIMIT,
+            Kind::Source {
+                path,
+                form: SourceForm::Framed,
+                limit,
+            } => is_path(path) && *limit <= MAX_LIMIT,
             Kind::Sink {
                 path,
-                form: SinkForm::Raw,
+                form: SinkForm::Raw | SinkForm::Framed,
             } => is_path(path),
             Kind::Skip { bytes } => *bytes <= MAX_PACKET,
             Kind::SetAttr { attr, value } => is_attribute(attr, value),

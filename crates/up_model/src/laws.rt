@@ -1,26 +1,30 @@
 // Laws of the definitions. A law is the contract of a function that does nothing.
-ghost use Rattle.std.specs.Prelude.{◌≡◌, ◌≢◌, ◌<◌, ◌+◌, ◌++◌, [], ℕ, ◌≤◌, ℤ, true, Option, List, All, length, map, slice_get, Some};
+ghost use Rattle.std.specs.Prelude.{◌≡◌, ◌≢◌, ◌<◌, ◌+◌, ◌++◌, [], ℕ, ◌≤◌, ℤ, true, None, Option, List, All, length, map, slice_get, Some};
 ghost use Rattle.std.specs.FinMap.{get};
 ghost use Rattle.up_base.specs.Lists.{IsPrefix};
+ghost use Rattle.up_base.specs.Number.{AreBytes};
 ghost use Rattle.up_model.specs.Attrs.{Attrs};
 ghost use Rattle.up_model.specs.Chain.{IsChain};
 ghost use Rattle.up_model.specs.Cutting.{blocks};
 ghost use Rattle.up_model.specs.Dates.{date_name};
 ghost use Rattle.up_model.specs.Delay.{delayed, delayed_packet, moved_value};
+ghost use Rattle.up_model.specs.Ends.{is_between};
 ghost use Rattle.up_model.specs.KindMeaning.{Setting, admits};
 ghost use Rattle.up_model.specs.Kinds.{IsWithinBounds, output_of, settled_output, settled_work, work_of, setting_of, with_option, share_of, module_kind};
 ghost use Rattle.up_model.specs.Meaning.{sink_bytes};
 ghost use Rattle.up_model.specs.OptionValues.{IsSet};
-ghost use Rattle.up_model.specs.Outcomes.{carried_as};
+ghost use Rattle.up_model.specs.Outcomes.{carried_as, shown_by, source_outcome};
 ghost use Rattle.up_model.specs.Packet.{Flow, IsLegal, joined};
 ghost use Rattle.up_model.specs.Tallies.{IsAtMost, nothing, plus, added, stopped};
-ghost use Rattle.up_model.specs.Work.{no_work, Counts, CutsTheRest};
+ghost use Rattle.up_model.specs.Work.{no_work, Counts, CutsTheRest, PutsOrDrops};
 ghost use Rattle.up_model.specs.declared.date_kind.DateKind.{DateKind as TheDate};
+ghost use Rattle.up_model.specs.declared.form.SourceForm.{SourceForm as TheForm};
 ghost use Rattle.up_model.specs.declared.kind.Kind.{Kind as TheKind};
 ghost use Rattle.up_model.specs.declared.kind.Kind.TheVariants as kinds;
 ghost use Rattle.up_model.specs.declared.limits.TheConstants.{MAX_PID};
 ghost use Rattle.up_model.specs.declared.opt.Opt.{Opt as TheOpt};
 ghost use Rattle.up_model.specs.declared.outcome.Outcome.{Outcome as TheOutcome};
+ghost use Rattle.up_model.specs.declared.outcome.Outcome.TheVariants as outcomes;
 ghost use Rattle.up_model.specs.declared.pipe.Pipe.{Pipe as ThePipe};
 ghost use Rattle.up_model.specs.declared.tally.Tally.{Tally as TheTally};
 ghost use Rattle.up_model.specs.declared.value.Value.{Value as TheValue};
@@ -68,8 +72,16 @@ pub fn sums_count_packets()
         → Counts (work_of kind taken) taken }
 {}
 
-/// What `null`, `skip`, `setattr` and `match_attr` cut and what they put out are the bytes that they took.
+/// Of each packet that a kind between the ends took one was put out or dropped, and none was gained or lost.
+pub fn packets_are_put_or_dropped()
+    ensures { (kind : TheKind) (taken : Flow) → is_between kind ≡ true
+        → PutsOrDrops (work_of kind taken) }
+{}
+
+/// What a kind between the ends cuts and what it puts out are the bytes that it took.
 pub fn cut_is_the_rest()
+    ensures idem { (taken : Flow) → CutsTheRest (work_of kinds.Idem taken) taken }
+    ensures dup { (taken : Flow) → CutsTheRest (work_of kinds.Dup taken) taken }
     ensures null { (taken : Flow) → CutsTheRest (work_of kinds.Null taken) taken }
     ensures skip { (bytes : ℕ) (taken : Flow)
         → CutsTheRest (work_of (kinds.Skip bytes) taken) taken }
@@ -77,6 +89,10 @@ pub fn cut_is_the_rest()
         → CutsTheRest (work_of (kinds.SetAttr attr value) taken) taken }
     ensures match_attr { (attr : List ℕ) (low high : ℕ) (taken : Flow)
         → CutsTheRest (work_of (kinds.MatchAttr attr low high) taken) taken }
+    ensures delattr { (attr : List ℕ) (taken : Flow)
+        → CutsTheRest (work_of (kinds.DelAttr attr) taken) taken }
+    ensures delay { (by : ℤ) (taken : Flow)
+        → CutsTheRest (work_of (kinds.Delay by) taken) taken }
 {}
 
 /// `delay` puts out every packet, and changes nothing of it but its three dates. One that is a number becomes its sum with the
@@ -108,10 +124,22 @@ pub fn shares_are_lawful()
         → All (λ number. number ≤ MAX_PID) numbers → IsWithinBounds (module_kind numbers kind) }
 {}
 
-/// What a source within its bounds carries, however it ends, is legal packets.
+/// What a source within its bounds carries of bytes, however it ends, is legal packets.
 pub fn carried_is_legal()
     ensures { (outcome : TheOutcome) (kind : TheKind) (bytes : List ℕ) → IsWithinBounds kind
-        → All IsLegal (carried_as outcome kind bytes) }
+        → AreBytes bytes → All IsLegal (carried_as outcome kind bytes) }
+{}
+
+/// What bytes show of a source whatever comes behind them is told of all bytes that begin so: those of no more than the limit that
+/// aren't broken show nothing, and only what is shown, or unfinished at the end, is told.
+pub fn what_is_shown_stays()
+    ensures stays { (form : TheForm) (limit : ℕ) (bytes more : List ℕ) (outcome : TheOutcome)
+        → shown_by form limit bytes ≡ Some outcome
+        → source_outcome form limit (bytes ++ more) ≡ outcome }
+    ensures within { (form : TheForm) (limit : ℕ) (bytes : List ℕ)
+        → shown_by form limit bytes ≡ None → length bytes ≤ limit }
+    ensures whole { (form : TheForm) (limit : ℕ) (bytes : List ℕ)
+        → source_outcome form limit bytes ≡ outcomes.Whole → shown_by form limit bytes ≡ None }
 {}
 
 /// An option lies within its own bounds. A value within them is set in that option alone, and the kind stays within its

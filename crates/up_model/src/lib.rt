@@ -30,11 +30,16 @@ mod pipe;
 mod plain;
 mod plain_attrs;
 mod plain_ends;
+mod plain_fields;
 mod plain_flow;
+#[cfg(test)]
+mod plain_frame_tests;
+mod plain_frames;
 mod plain_kinds;
 mod plain_packet;
 #[cfg(test)]
 mod plain_packet_tests;
+mod plain_spelling;
 mod plain_step;
 #[cfg(test)]
 mod plain_tests;
@@ -66,8 +71,9 @@ pub use graph_laws::{
 pub use kind::Kind;
 pub use laws::{
     blocks_rejoin, carried_is_legal, chain_copies, cut_is_the_rest, dates_are_moved,
-    kept_sums_stop, options_are_set, outputs_are_legal, settled_is_prefix, settled_sums_grow,
-    shares_are_lawful, starts_with_nothing, sums_add_up, sums_count_packets,
+    kept_sums_stop, options_are_set, outputs_are_legal, packets_are_put_or_dropped,
+    settled_is_prefix, settled_sums_grow, shares_are_lawful, starts_with_nothing, sums_add_up,
+    sums_count_packets, what_is_shown_stays,
 };
 pub use limits::{
     DEFAULT_BLOCK, DEFAULT_QUEUE, MAX_ATTRS, MAX_BLOCK, MAX_GRAPH, MAX_LIMIT, MAX_PACKET, MAX_PATH,

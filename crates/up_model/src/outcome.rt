@@ -13,6 +13,8 @@ pub enum Outcome {
     ReadFault,
     /// Its sink couldn't be opened, written or closed.
     WriteFault,
+    /// Its source had a frame that is broken, or unfinished at its end, `offset` bytes from its start.
+    BadFrame { offset: u64 },
     /// Its source had more than `limit` bytes.
     TooLong { limit: u64 },
     /// What it took ended broken, or another pipe's open was refused.
@@ -29,7 +31,10 @@ impl Outcome {
         ensures { result ≡ is_cause self }
     {
         match self {
-            Outcome::ReadFault | Outcome::WriteFault | Outcome::TooLong { .. } => true,
+            Outcome::ReadFault
+            | Outcome::WriteFault
+            | Outcome::BadFrame { .. }
+            | Outcome::TooLong { .. } => true,
             Outcome::Whole | Outcome::Broken | Outcome::NoMemory => false,
         }
     }
@@ -42,6 +47,7 @@ impl Outcome {
             Outcome::Whole => Outcome::Whole,
             Outcome::ReadFault
             | Outcome::WriteFault
+            | Outcome::BadFrame { .. }
             | Outcome::TooLong { .. }
             | Outcome::Broken
             | Outcome::NoMemory => Outcome::Broken,

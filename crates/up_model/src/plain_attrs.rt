@@ -1,5 +1,5 @@
 // The attributes of a packet, in the order of their names.
-ghost use Rattle.std.specs.Prelude.{◌≡◌, ◌<◌, ◌≤◌, Some, None, length, slice_get, slice_set, IfOk, OnOk, OnErr, IfErr, MatchOption};
+ghost use Rattle.std.specs.Prelude.{◌≡◌, ◌<◌, ◌≤◌, T, Some, None, length, slice_get, slice_set, IfOk, OnOk, OnErr, IfErr, MatchOption};
 ghost use Rattle.std.specs.Ordering.{nat_cmp};
 ghost use Rattle.std.specs.Cmp.Lexicographic.{slice_cmp};
 ghost use Rattle.std.specs.List.{HoldsAt, insert};
@@ -102,6 +102,14 @@ impl PlainAttrs {
         PlainAttrs {
             entries: Vec::new(alloc),
         }
+    }
+
+    /// The attributes of these entries, whose names rise.
+    pub(crate) fn in_order(entries: Vec<(AttrName, Value)>) -> PlainAttrs
+        requires { T (map.is_sorted (slice_cmp nat_cmp) entries.items) }
+        ensures { result ≡ map.from_sorted entries.items }
+    {
+        PlainAttrs { entries }
     }
 
     /// Gives the attribute this value, and says whether it was there before. Where there is no room the value comes back.

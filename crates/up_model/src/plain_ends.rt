@@ -1,10 +1,13 @@
 // What the forms of sources and sinks make of bytes and packets.
-ghost use Rattle.std.specs.Prelude.{◌≡◌, ◌+◌, ◌*◌, ◌<◌, ◌≤◌, length, true, false, IfOk};
+ghost use Rattle.std.specs.Prelude.{◌≡◌, ◌+◌, ◌*◌, ◌<◌, ◌≤◌, length, true, false, All, IfOk};
 ghost use Rattle.up_model.specs.Cutting.{piece, pieces};
 ghost use Rattle.up_model.specs.Ends.{IsSourceForm, written_by};
 ghost use Rattle.up_model.specs.Outcomes.{packets_of, settled_packets_of};
-ghost use Rattle.up_model.specs.Packet.{joined};
+ghost use Rattle.up_model.specs.Packet.{IsLegal, joined};
+ghost use Rattle.up_model.specs.declared.limits.TheConstants.{MAX_PACKET};
 
+use crate::plain_frames::whole_frames;
+use crate::plain_spelling::frames_of;
 use crate::{PacketList, PlainPacket, SinkForm, SourceForm};
 use std::alloc::Global;
 use up_base::{Bytes, NoMemory};
@@ -20,8 +23,10 @@ fn piece(bytes: &[u8], size: usize, place: usize) -> &[u8]
 
 /// The first pieces, each a packet.
 fn pieces(alloc: Global, size: usize, bytes: &[u8], count: usize) -> Result<PacketList, NoMemory>
-    requires { count * size < length bytes.now + size }
-    ensures { IfOk result (λ packets. packets ≡ pieces size bytes.now count) }
+    requires within { count * size < length bytes.now + size }
+    requires small { size ≤ MAX_PACKET }
+    ensures pieces { IfOk result (λ packets. packets ≡ pieces size bytes.now count) }
+    ensures legal { IfOk result (All IsLegal) }
 {
     let mut packets = PacketList::new(alloc);
     for place in 0..count {
@@ -42,6 +47,7 @@ pub(crate) fn form_packets(
     ensures whole { whole ≡ true → IfOk result (λ packets. packets ≡ packets_of form bytes.now) }
     ensures settled { whole ≡ false
         → IfOk result (λ packets. packets ≡ settled_packets_of form bytes.now) }
+    ensures legal { IfOk result (All IsLegal) }
 {
     match form {
         SourceForm::Raw { block } => {
@@ -52,6 +58,7 @@ pub(crate) fn form_packets(
                 pieces(alloc, size, bytes, bytes.len() / size)
             }
         }
+        SourceForm::Framed => whole_frames(alloc, bytes),
     }
 }
 
@@ -72,9 +79,11 @@ pub(crate) fn form_bytes(
     form: SinkForm,
     flow: &PacketList,
 ) -> Result<Bytes, NoMemory>
+    requires legal { All IsLegal flow.now }
     ensures { IfOk result (λ bytes. bytes ≡ written_by form flow.now) }
 {
     match form {
         SinkForm::Raw => joined(alloc, flow),
+        SinkForm::Framed => frames_of(alloc, flow),
     }
 }

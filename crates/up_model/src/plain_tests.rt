@@ -8,7 +8,12 @@ use std::test::Fail;
 use up_base::{Bytes, PipeName, Text};
 
 /// Adds a pipe of this name.
-fn add(graph: &mut Graph, name: &[u8], input: Option<u16>, kind: Kind) -> Result<(), Fail> {
+pub(crate) fn add(
+    graph: &mut Graph,
+    name: &[u8],
+    input: Option<u16>,
+    kind: Kind,
+) -> Result<(), Fail> {
     graph.pipes.push(Pipe {
         name: PipeName::read(name)?,
         worker: default_worker(),
@@ -48,7 +53,7 @@ pub(crate) fn three(alloc: Global, block: u32, kind: Kind) -> Result<Graph, Fail
 }
 
 /// The bytes of these packets are the wanted ones.
-fn assert_packets(rt: &impl Abort, packets: &PacketList, wanted: &[&[u8]]) {
+pub(crate) fn assert_packets(rt: &impl Abort, packets: &PacketList, wanted: &[&[u8]]) {
     assert_eq!(rt; packets.len(), wanted.len());
     for (place, bytes) in wanted.iter().enumerate() {
         assert!(rt; place < packets.len());
@@ -57,7 +62,7 @@ fn assert_packets(rt: &impl Abort, packets: &PacketList, wanted: &[&[u8]]) {
 }
 
 /// An entry for each pipe.
-fn entries(alloc: Global, given: &[&[u8]]) -> Result<GivenBytes, Fail> {
+pub(crate) fn entries(alloc: Global, given: &[&[u8]]) -> Result<GivenBytes, Fail> {
     let mut list = GivenBytes::new(alloc);
     for bytes in given {
         list.push(Bytes::from_slice(alloc, bytes)?)?;
@@ -66,7 +71,7 @@ fn entries(alloc: Global, given: &[&[u8]]) -> Result<GivenBytes, Fail> {
 }
 
 /// Bytes for the first of so many pipes.
-fn first_entry(alloc: Global, bytes: &[u8], count: usize) -> Result<GivenBytes, Fail> {
+pub(crate) fn first_entry(alloc: Global, bytes: &[u8], count: usize) -> Result<GivenBytes, Fail> {
     let mut list = GivenBytes::new(alloc);
     list.push(Bytes::from_slice(alloc, bytes)?)?;
     for _ in 1..count {
@@ -86,7 +91,7 @@ fn filled(alloc: Global, count: usize, rest: &[u8]) -> Result<Bytes, Fail> {
 }
 
 /// The sink at a place holds the wanted bytes, where the pipes are given these.
-fn assert_output(
+pub(crate) fn assert_output(
     rt: &impl Abort,
     alloc: Global,
     graph: &Graph,
@@ -104,13 +109,13 @@ fn assert_output(
 
 /// What became of some bytes at the source, the pipe and the sink of such a graph.
 #[derive(Drop)]
-struct Stages {
-    packets: PacketList,
-    put: PacketList,
-    written: Bytes,
+pub(crate) struct Stages {
+    pub(crate) packets: PacketList,
+    pub(crate) put: PacketList,
+    pub(crate) written: Bytes,
 }
 
-fn carry(
+pub(crate) fn carry(
     rt: &impl Abort,
     alloc: Global,
     graph: &Graph,

@@ -18,4 +18,4 @@ pub returns-clause-settled_taken : goal.returns-clause-settled_taken
 returns-clause-settled_taken c pipes given pipe well legal = inputs_are_legal pipes so_far so_far_keeps (are_bounded pipes well) (to_sources pipes given) (sources_legal pipes given legal) pipe
 
 pub returns-clause-sources : goal.returns-clause-sources
-returns-clause-sources c pipes ends bytes place well = carried_flows_are_legal pipes well ends bytes place
+returns-clause-sources c pipes ends bytes place well below = carried_flows_are_legal pipes well ends bytes place below
