@@ -1,5 +1,5 @@
 -- Bytes that are fed piece by piece, and their rest.
-use Rattle.std.proofs.Common.{◌≡◌, ℕ, ◌+◌, ◌-◌, List, drop, Option, None, Ok, Err, ap, ◌∙◌}
+use Rattle.std.proofs.Common.{◌≡◌, ℕ, ◌+◌, List, drop, Option, None, Ok, Err, ap, ◌∙◌}
 use Rattle.std.proofs.lemmas.List.{drop-drop}
 use Rattle.up_frame.specs.Judging.{IsJudged, IsRest, EndsAt}
 use Rattle.up_frame.specs.declared.judged.Judged.{Judged}

@@ -69,11 +69,6 @@ pub keeps_open : (reader : FrameReader) (bytes : List ℕ) (given : Flow) → re
 keeps_open reader bytes given whole stands =
     subst (λ broken. Keeps broken reader.judged (behind_frames reader) bytes) whole stands.keeps
 
-pub not_broken : (reader : FrameReader) (bytes : List ℕ) (given : Flow) → reader.broken ≡ None → StandsFor reader bytes given → broken_at bytes ≡ None
-not_broken reader bytes given whole stands =
-    let keeps = keeps_open reader bytes given whole stands in
-    broken_rest bytes (behind_frames reader) Unfinished keeps.0 keeps.1.0
-
 -- what is kept behind the frames, where it is the same
 same_keeps : (old new : FrameReader) (bytes : List ℕ) → new.broken ≡ old.broken → new.judged ≡ old.judged → behind_frames new ≡ behind_frames old
     → Keeps old.broken old.judged (behind_frames old) bytes → Keeps new.broken new.judged (behind_frames new) bytes
@@ -105,27 +100,6 @@ piece_counted old new piece bytes given offset is held first start fed broken st
       },
       later,
     )
-
--- the bytes that were given are let go
-pub compacted : (old new : FrameReader) (bytes : List ℕ) (given : Flow) → new.held.items ≡ drop old.given old.held.items → new.given ≡ 0
-    → new.start ≡ old.start - old.given → new.judged ≡ old.judged → new.fed ≡ old.fed → new.broken ≡ old.broken
-    → StandsFor old bytes given → StandsFor new bytes given
-compacted old new bytes given held first start judged fed broken stands =
-    let less : old.start - old.given - 0 ≡ old.start - old.given = omega arith in
-    let behind : behind_frames new ≡ behind_frames old =
-    ap (λ (s : ℕ). drop s new.held.items) start ∙ ap (drop (old.start - old.given)) held ∙ behind_place old.held.items old.given old.start old.ordered in
-    let frames : frames_held new ≡ frames_held old =
-    ap (λ (s : ℕ). slice_range new.held.items new.given s) start
-    ∙ ap (λ (p : ℕ). slice_range new.held.items p (old.start - old.given)) first
-    ∙ ap (λ (h : List ℕ). slice_range h 0 (old.start - old.given)) held
-    ∙ ap (λ (n : ℕ). take n (drop old.given old.held.items)) less in
-    record {
-      count = fed ∙ stands.count;
-      waiting = stands.waiting;
-      waits = record { legal = stands.waits.legal; frames = frames ∙ stands.waits.frames };
-      whole = stands.whole;
-      keeps = same_keeps old new bytes broken judged behind stands.keeps;
-    }
 
 -- a piece is added
 pub piece_added : (old new : FrameReader) (piece bytes : List ℕ) (given : Flow) → old.broken ≡ None → new.held.items ≡ old.held.items ++ piece

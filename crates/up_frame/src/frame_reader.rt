@@ -177,20 +177,29 @@ impl FrameReader {
         Ok(Some(packet))
     }
 
+    /// The place of what isn't whole, where there is any: of a broken frame, or of one that is unfinished so far.
+    pub fn cut(&self) -> Option<u64>
+        ensures { (bytes : List ℕ) (given : Flow) → StandsFor self.now bytes given
+            → result ≡ cut_at bytes }
+    {
+        if let Some(offset) = self.broken {
+            return Some(offset);
+        }
+        let left = self.held.len() - self.start;
+        if left == 0 {
+            return None;
+        }
+        Some(self.fed - left as u64)
+    }
+
     /// Ends the reading. What isn't whole then is a broken or an unfinished frame.
     pub fn finish(self) -> Result<(), BadFrame>
         ensures cut { (bytes : List ℕ) (given : Flow) → StandsFor self bytes given
             → TellsCut (cut_at bytes) result }
     {
-        if let Some(offset) = self.broken {
-            return Err(BadFrame { offset });
+        match self.cut() {
+            Some(offset) => Err(BadFrame { offset }),
+            None => Ok(()),
         }
-        let left = self.held.len() - self.start;
-        if left == 0 {
-            return Ok(());
-        }
-        Err(BadFrame {
-            offset: self.fed - left as u64,
-        })
     }
 }
