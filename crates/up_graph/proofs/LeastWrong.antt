@@ -17,7 +17,8 @@ use Rattle.up_graph.specs.Document.{document_of, parsed}
 use Rattle.up_graph.specs.Faults.{faultless, graph_from, has_many_inputs, names_differ, none_at, one_input_each, told}
 use Rattle.up_graph.specs.Field.{Field, Rule, both, field_map, given, known_alone, keys, or_wrong}
 use Rattle.up_graph.specs.Graph.{graph_in, graph_of}
-use Rattle.up_graph.specs.KindRows.{FieldTest, KindRow, a_kind, attr, block, by, bytes, high, inputs_of, limit, low, names_of, own_of, path, pipe_name, test_of}
+use Rattle.up_graph.specs.Form.{block, form, source_form}
+use Rattle.up_graph.specs.KindRows.{FieldTest, KindRow, a_kind, attr, by, bytes, high, inputs_of, limit, low, names_of, own_of, path, pipe_name, source_row, test_of}
 use Rattle.up_graph.specs.LeastWrong.{HasNoWrong, IsToldOf, TellsLeastWrong, TellsOf, is_not_allowed, is_refused, is_wrong, kind_in}
 use Rattle.up_graph.specs.Pipes.{pipe_by, pipe_in, pipe_with, pipes_from, taken_by}
 use Rattle.up_graph.specs.Top.{array_in, array_of, counted, is_one, is_table, numbered, tables_in, tables_of, version_is, version_of}
@@ -49,6 +50,11 @@ two_own a b = ap (λ last. a || last) (or-false b)
 three_own : (a b c : Bool) → (a || (b || (c || false))) ≡ (a || (b || c))
 three_own a b c = rw (or-false c) refl
 
+source_own : (a b c d : Bool) → (a || (b || (c || (d || false)))) ≡ (a || ((b || c) || d))
+source_own true b c d = refl
+source_own false true c d = refl
+source_own false false c d = ap (λ last. c || last) (or-false d)
+
 -- a kind of one own field, of two, and of three, the last two of which are read together
 one_tell : {A B : Type 0} (f : A → B) (a : Rule A) (fields : Members) → Judges (field_map f (given a fields)) (are_refused fields (test_of a ∷ []))
 one_tell f a fields =
@@ -75,13 +81,25 @@ three_tell f a b c fields =
     (λ key. three_own (is_refused key fields (test_of a)) (is_refused key fields (test_of b)) (is_refused key fields (test_of c)))
     (both_judges _ _ (given a fields) others (given_judges a fields) (two_judge b c fields)))
 
+-- a source's form comes of two fields
+source_tells : TellsOwn source_row
+source_tells fields =
+    let blocks = block (given form fields) in
+    let ends = both (source_form fields) (given limit fields) in
+    map_judges _ _ (both (given path fields) ends)
+    (same_judges _ _ (both (given path fields) ends)
+    (λ key. source_own (is_refused key fields (test_of path)) (is_refused key fields (test_of form)) (is_refused key fields (test_of blocks)) (is_refused key fields (test_of limit)))
+    (both_judges _ _ (given path fields) ends (given_judges path fields)
+    (both_judges _ _ (source_form fields) (given limit fields)
+    (map_judges _ _ (both (given form fields) (given blocks fields)) (two_judge form blocks fields)) (given_judges limit fields))))
+
 plain_tells : (fields : Members) (key : List ℕ) → are_refused fields [] key ≡ true → ⊥
 plain_tells fields key is = absurd cc
 
 kind_tells : (found : Option Data) → IfSome (a_kind.value found) TellsOwn
 kind_tells = each_kind TellsOwn (record {
-  source = λ fields. three_tell _ path block limit fields;
-  sink = λ fields. one_tell _ path fields;
+  source = source_tells;
+  sink = λ fields. two_tell _ path form fields;
   idem = plain_tells;
   null = plain_tells;
   dup = plain_tells;

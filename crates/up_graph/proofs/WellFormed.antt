@@ -1,6 +1,6 @@
 -- A graph that is read is well formed.
 use Rattle.std.proofs.Common.{inl, inr, ◌≡◌, ℕ, suc, ◌≤◌, Bool, true, false, not, List, [], ◌∷◌, All, length, Option, Some, None, Result, Ok, Err, refl, arith}
-use Rattle.std.specs.Prelude.{codes, ◌&&◌, ◌==◌, ◌-◌, ◌^◌, int_le, nat_le, nat_lt, pos, negsuc, IfOk, IfSome}
+use Rattle.std.specs.Prelude.{codes, ◌&&◌, ◌==◌, ◌-◌, ◌^◌, int_le, nat_lt, pos, negsuc, IfOk, IfSome}
 use Rattle.std.specs.Int.Signed.{le_z_yes}
 use Rattle.std.specs.List.{list_all}
 use Rattle.std.specs.Option.{is_some}
@@ -15,26 +15,32 @@ use Rattle.up_graph.proofs.Rows.{each_kind}
 use Rattle.up_graph.specs.Answers.{Answers, Checked}
 use Rattle.up_graph.specs.AttrValue.{attr_value, is_value_text, value_or_void}
 use Rattle.up_graph.specs.Faults.{names_differ, one_input_each, faultless, told, graph_from}
-use Rattle.up_graph.specs.Field.{field_map, both, given, or_wrong}
+use Rattle.up_graph.specs.Field.{Field, field_map, both, given, or_wrong}
+use Rattle.up_graph.specs.Form.{block, form, form_with, in_blocks, sink_form, source_form}
 use Rattle.up_graph.specs.Graph.{graph_in}
-use Rattle.up_graph.specs.KindRows.{KindRow, a_kind, attr, block, by, bytes, greatest_low, high, limit, low, path, pipe_name, own_of, source_row, sink_row, skip_row, setattr_row, delattr_row, match_attr_row, delay_row}
+use Rattle.up_graph.specs.KindRows.{KindRow, a_kind, attr, by, bytes, greatest_low, high, limit, low, path, pipe_name, own_of, source_row, sink_row, skip_row, setattr_row, delattr_row, match_attr_row, delay_row}
 use Rattle.up_graph.specs.Pipes.{pipe_from, pipe_with, pipe_by, pipe_in, pipes_from, taken_by, input_of}
 use Rattle.up_graph.specs.Top.{array_in, array_of, counted, is_table, numbered, tables_in, tables_of, version_of}
 use Rattle.up_graph.specs.Values.{a_name, a_number, integer_in, number_in, number_or, text_that, values}
+use Rattle.up_graph.specs.declared.form.Form.{Form}
+use Rattle.up_graph.specs.declared.form.Form.TheVariants.{Raw, Framed}
 use Rattle.up_graph.specs.declared.graph_refused.GraphRefused.{GraphRefused}
 use Rattle.up_model.specs.Delay.{IsShift, least_shift, greatest_shift}
-use Rattle.up_model.specs.Ends.{IsPath, is_path, is_source}
+use Rattle.up_model.specs.Ends.{IsPath, IsSinkForm, IsSourceForm, is_path, is_source}
+use Rattle.up_model.specs.FrameFronts.{is_size_of, is_value_of}
 use Rattle.up_model.specs.Kinds.{IsWithinBounds}
 use Rattle.up_model.specs.MatchAttr.{AreBounds}
 use Rattle.up_model.specs.SetAttr.{IsAttribute}
 use Rattle.up_model.specs.Value.{IsLegalValue}
 use Rattle.up_model.specs.WellFormed.{IsPipe, IsWellFormed, graph_fault}
+use Rattle.up_model.specs.declared.form.SourceForm.TheVariants as source_forms
 use Rattle.up_model.specs.declared.graph.Graph.{Graph}
 use Rattle.up_model.specs.declared.graph_fault.GraphFault.{GraphFault}
 use Rattle.up_model.specs.declared.kind.Kind.{Kind}
-use Rattle.up_model.specs.declared.limits.TheConstants.{DEFAULT_BLOCK, MAX_BLOCK, MAX_LIMIT, MAX_PACKET, MAX_PIPES, MAX_VALUE}
+use Rattle.up_model.specs.declared.limits.TheConstants.{DEFAULT_BLOCK, MAX_BLOCK, MAX_LIMIT, MAX_PACKET, MAX_PIPES}
 use Rattle.up_model.specs.declared.pipe.Pipe.{Pipe}
 use Rattle.up_model.specs.declared.value.Value.TheVariants.{Unsigned, Words}
+use Rattle.up_model.specs.declared.value_type.ValueType.TheVariants as types
 
 text_right : (passes : List ℕ → Bool) (found : Option Data) → IfSome (text_that passes found) (λ text. passes text ≡ true)
 text_right passes None = tt
@@ -79,18 +85,47 @@ path_right fields =
 abbrev IsRight : KindRow → Type 0
 IsRight row = (fields : Members) → IfOk (row.kind fields) (λ kind. IsWithinBounds kind × (is_source kind ≡ row.is_source))
 
+blocks_right : (found : Option Data) → IfSome (in_blocks found) IsSourceForm
+blocks_right found =
+    made_too source_forms.Raw (IsBetween 1 MAX_BLOCK) IsSourceForm (number_or (Some DEFAULT_BLOCK) 1 MAX_BLOCK found)
+    (number_or_right (Some DEFAULT_BLOCK) 1 MAX_BLOCK found (omega arith, omega arith)) (λ block within. within)
+
+block_right : (beside : Field Form) (found : Option Data) → IfSome (form_with beside found) IsSourceForm
+block_right (Ok Raw) found = blocks_right found
+block_right (Ok Framed) None = tt
+block_right (Ok Framed) (Some value) = tt
+block_right (Err key) None = (omega arith, omega arith)
+block_right (Err key) (Some value) = tt
+
+source_form_right : (fields : Members) → IfOk (source_form fields) IsSourceForm
+source_form_right fields =
+    let blocks = block (given form fields) in
+    let forms = both (given form fields) (given blocks fields) in
+    mapped _ forms IsSourceForm
+    (weaker forms (λ found. Unit {0} × IsSourceForm found.1) _ (λ found right. right.1)
+    (both_too (λ form. Unit {0}) IsSourceForm (given form fields) (given blocks fields) (anything (given form fields))
+    (given_too blocks.name IsSourceForm (blocks.value (get_member blocks.name fields)) (block_right (given form fields) (get_member blocks.name fields)))))
+
 source_right : IsRight source_row
 source_right fields =
-    mapped _ (both (given path fields) (both (given block fields) (given limit fields))) _
-    (weaker (both (given path fields) (both (given block fields) (given limit fields)))
-    (λ found. IsPath found.0 × (IsBetween 1 MAX_BLOCK found.1.0 × IsBetween 0 MAX_LIMIT found.1.1)) _ (λ found right. ((right.0, right.1.0, right.1.1.1), refl))
-    (both_too IsPath (λ numbers. IsBetween 1 MAX_BLOCK numbers.0 × IsBetween 0 MAX_LIMIT numbers.1) (given path fields) (both (given block fields) (given limit fields)) (path_right fields)
-    (both_too (IsBetween 1 MAX_BLOCK) (IsBetween 0 MAX_LIMIT) (given block fields) (given limit fields)
-    (number_given (codes "block") (Some DEFAULT_BLOCK) 1 MAX_BLOCK fields (omega arith, omega arith))
+    let ends = both (source_form fields) (given limit fields) in
+    mapped _ (both (given path fields) ends) _
+    (weaker (both (given path fields) ends)
+    (λ found. IsPath found.0 × (IsSourceForm found.1.0 × IsBetween 0 MAX_LIMIT found.1.1)) _ (λ found right. ((right.0, right.1.0, right.1.1.1), refl))
+    (both_too IsPath (λ others. IsSourceForm others.0 × IsBetween 0 MAX_LIMIT others.1) (given path fields) ends (path_right fields)
+    (both_too IsSourceForm (IsBetween 0 MAX_LIMIT) (source_form fields) (given limit fields) (source_form_right fields)
     (number_given (codes "limit") (Some MAX_LIMIT) 0 MAX_LIMIT fields (omega arith, omega arith)))))
 
+sink_form_right : (form : Form) → IsSinkForm (sink_form form)
+sink_form_right Raw = tt
+sink_form_right Framed = tt
+
 sink_right : IsRight sink_row
-sink_right fields = mapped _ (given path fields) _ (weaker (given path fields) IsPath _ (λ path right. ((right, tt), refl)) (path_right fields))
+sink_right fields =
+    let own = both (given path fields) (given form fields) in
+    mapped _ own _
+    (weaker own (λ found. IsPath found.0 × Unit {0}) _ (λ found right. ((right.0, sink_form_right found.1), refl))
+    (both_too IsPath (λ form. Unit {0}) (given path fields) (given form fields) (path_right fields) (anything (given form fields))))
 
 skip_right : IsRight skip_row
 skip_right fields =
@@ -108,7 +143,7 @@ value_legal (Some (integer number)) =
     (λ number within. omega (arith, within.1))
 value_legal (Some (string text)) =
     made_too Words (λ text. is_value_text text ≡ true) IsLegalValue (text_that is_value_text (Some (string text))) (text_right is_value_text (Some (string text)))
-    (λ text is. let parts = and_parts (is_utf8 text) (nat_le (length text) MAX_VALUE) is in (parts.0, grind (arith, nat_tests, parts.1)))
+    (λ text is. let parts = and_parts (is_value_of types.Words text) (is_size_of types.Words (length text)) is in (parts.0, grind (arith, nat_tests, parts.1)))
 value_legal (Some value) = tt
 
 setattr_right : IsRight setattr_row
@@ -135,7 +170,7 @@ match_attr_right fields =
     (weaker (both (given attr fields) bounds) (λ found. Unit {0} × AreBounds found.1.0 found.1.1) _ (λ found right. (right.1, refl))
     (both_too (λ name. Unit {0}) (λ bounds. AreBounds bounds.0 bounds.1) (given attr fields) bounds (anything (given attr fields)) (bounds_right fields)))
 
-shift_right : (found : Option Data) → IfSome (integer_in found) IsShift
+shift_right : (found : Option Data) → IfSome (integer_in least_shift greatest_shift found) IsShift
 shift_right None = tt
 shift_right (Some (integer number)) =
     elim (cases_Bool (int_le least_shift number && int_le number greatest_shift)) [
@@ -150,7 +185,7 @@ shift_right (Some value) = tt
 delay_right : IsRight delay_row
 delay_right fields =
     mapped _ (given by fields) _
-    (weaker (given by fields) IsShift _ (λ by right. (right, refl)) (given_too by.name IsShift (integer_in (get_member by.name fields)) (shift_right (get_member by.name fields))))
+    (weaker (given by fields) IsShift _ (λ by right. (right, refl)) (given_too by.name IsShift (integer_in least_shift greatest_shift (get_member by.name fields)) (shift_right (get_member by.name fields))))
 
 taken_right : (is : Bool) (tables : List Data) (fields : Members) → IfOk (taken_by is tables fields) (λ input. is_some input ≡ not is)
 taken_right true tables fields = refl

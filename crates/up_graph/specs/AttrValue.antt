@@ -1,16 +1,16 @@
 -- What may stand at `value`, and the value that an attribute is set to by it.
-use Rattle.std.specs.Prelude.{◌-◌, ◌^◌, ℕ, nat_le, Bool, ◌&&◌, List, length, codes, Option, Some, None, option_map}
-use Rattle.std.specs.Str.{is_utf8}
+use Rattle.std.specs.Prelude.{◌-◌, ◌^◌, ℕ, Bool, ◌&&◌, List, length, codes, Option, Some, None, option_map}
 use Rattle.toml.specs.Data.{Data, string, integer, boolean}
 use Rattle.up_graph.specs.Field.{Rule}
 use Rattle.up_graph.specs.Values.{number_in, text_that}
-use Rattle.up_model.specs.declared.limits.TheConstants.{MAX_VALUE}
+use Rattle.up_model.specs.FrameFronts.{is_size_of, is_value_of}
 use Rattle.up_model.specs.declared.value.Value.{Value}
 use Rattle.up_model.specs.declared.value.Value.TheVariants.{Void, Flag, Unsigned, Words}
+use Rattle.up_model.specs.declared.value_type.ValueType.TheVariants as types
 
--- a text of at most 4,096 bytes
+-- bytes that a value which is a text may be, in the length that it may have
 abbrev pub is_value_text : List ℕ → Bool
-is_value_text text = is_utf8 text && nat_le (length text) MAX_VALUE
+is_value_text text = is_value_of types.Words text && is_size_of types.Words (length text)
 
 -- a boolean is a flag, an integer from 0 a number, a text a text
 abbrev pub value_in : Data → Option Value

@@ -5,12 +5,12 @@ use Rattle.std.specs.Str.{bytes_eq}
 use Rattle.toml.specs.Data.{Data, Members, as_str}
 use Rattle.up_graph.specs.AttrValue.{attr_value}
 use Rattle.up_graph.specs.Field.{Field, field_map, both, Rule, given, known_alone}
+use Rattle.up_graph.specs.Form.{block, form, sink_form, source_form}
 use Rattle.up_graph.specs.Values.{a_name, a_path, a_number, an_input, an_integer}
-use Rattle.up_model.specs.declared.form.SinkForm.TheVariants as sink_forms
-use Rattle.up_model.specs.declared.form.SourceForm.TheVariants as source_forms
+use Rattle.up_model.specs.Delay.{least_shift, greatest_shift}
 use Rattle.up_model.specs.declared.kind.Kind.{Kind}
 use Rattle.up_model.specs.declared.kind.Kind.TheVariants.{Source, Sink, Idem, Null, Dup, Skip, SetAttr, DelAttr, MatchAttr, Delay}
-use Rattle.up_model.specs.declared.limits.TheConstants.{DEFAULT_BLOCK, MAX_BLOCK, MAX_LIMIT, MAX_PACKET}
+use Rattle.up_model.specs.declared.limits.TheConstants.{MAX_LIMIT, MAX_PACKET}
 
 -- a field by its name, and whether what stands there is right
 pub record FieldTest : Type 0 where
@@ -29,26 +29,26 @@ pub record KindRow : Type 0 where
 abbrev pub path : Rule (List ℕ)
 path = a_path (codes "path")
 
-abbrev pub block : Rule ℕ
-block = a_number (codes "block") 1 MAX_BLOCK (Some DEFAULT_BLOCK)
-
 abbrev pub limit : Rule ℕ
 limit = a_number (codes "limit") 0 MAX_LIMIT (Some MAX_LIMIT)
 
 abbrev pub source_row : KindRow
 source_row = record {
   is_source = true;
-  own = λ table. test_of path ∷ test_of block ∷ test_of limit ∷ [];
+  own = λ table.
+      test_of path ∷ test_of form ∷ test_of (block (given form table)) ∷ test_of limit ∷ [];
   kind = λ table.
-      field_map (λ found. Source found.0 (source_forms.Raw found.1.0) found.1.1)
-      (both (given path table) (both (given block table) (given limit table)));
+      field_map (λ found. Source found.0 found.1.0 found.1.1)
+      (both (given path table) (both (source_form table) (given limit table)));
 }
 
 abbrev pub sink_row : KindRow
 sink_row = record {
   is_source = false;
-  own = λ table. test_of path ∷ [];
-  kind = λ table. field_map (λ found. Sink found sink_forms.Raw) (given path table);
+  own = λ table. test_of path ∷ test_of form ∷ [];
+  kind = λ table.
+      field_map (λ found. Sink found.0 (sink_form found.1))
+      (both (given path table) (given form table));
 }
 
 abbrev pub bytes : Rule ℕ
@@ -101,7 +101,7 @@ match_attr_row = record {
 }
 
 abbrev pub by : Rule ℤ
-by = an_integer (codes "by")
+by = an_integer (codes "by") least_shift greatest_shift
 
 abbrev pub delay_row : KindRow
 delay_row = record {

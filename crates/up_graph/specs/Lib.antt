@@ -3,6 +3,7 @@ pub mod AttrValue
 pub mod Document
 pub mod Faults
 pub mod Field
+pub mod Form
 pub mod Graph
 pub mod KindRows
 pub mod KindSeen

@@ -7,11 +7,12 @@ ghost use Rattle.up_graph.specs.KindSeen.{kind_seen, row_seen};
 
 use crate::attr_value::attr_value_at;
 use crate::field::{both, known_alone};
+use crate::form::{form_at, source_form_at};
 use crate::values::{integer_at, name_at, number_at, path_at, short_number_at};
 use std::alloc::Global;
 use toml::Table;
 use up_base::{NoMemory, Text};
-use up_model::{DEFAULT_BLOCK, Kind, MAX_BLOCK, MAX_LIMIT, MAX_PACKET, SinkForm, SourceForm};
+use up_model::{Kind, MAX_LIMIT, MAX_PACKET};
 
 /// A kind, as a table gives it that has no fields but those of the kind.
 #[derive(Drop)]
@@ -31,35 +32,29 @@ fn source_at<'a>(alloc: Global, table: &'a Table) -> Result<Result<Kind, &'a str
     ensures { IfOk result (λ kind. seen (λ kind. kind) kind
         ≡ own_of source_row (table_view table.entry.now)) }
 {
-    let numbers = both(
-        short_number_at(table, "block", 1, MAX_BLOCK, Some(DEFAULT_BLOCK)),
-        number_at(table, "limit", 0, MAX_LIMIT, Some(MAX_LIMIT)),
-    );
-    let own = both(path_at(table, "path"), numbers);
-    Ok(
-        match both(known_alone(table, &EVERY, &["path", "block", "limit"]), own) {
-            Ok((_, (path, (block, limit)))) => Ok(Kind::Source {
-                path: Text::from_str(alloc, path)?,
-                form: SourceForm::Raw { block },
-                limit,
-            }),
-            Err(field) => Err(field),
-        },
-    )
+    let limit = number_at(table, "limit", 0, MAX_LIMIT, Some(MAX_LIMIT));
+    let own = both(path_at(table, "path"), both(source_form_at(table), limit));
+    let known = known_alone(table, &EVERY, &["path", "form", "block", "limit"]);
+    Ok(match both(known, own) {
+        Ok((_, (path, (form, limit)))) => Ok(Kind::Source {
+            path: Text::from_str(alloc, path)?,
+            form,
+            limit,
+        }),
+        Err(field) => Err(field),
+    })
 }
 
 fn sink_at<'a>(alloc: Global, table: &'a Table) -> Result<Result<Kind, &'a str>, NoMemory>
     ensures { IfOk result (λ kind. seen (λ kind. kind) kind
         ≡ own_of sink_row (table_view table.entry.now)) }
 {
+    let own = both(path_at(table, "path"), form_at(table));
     Ok(
-        match both(
-            known_alone(table, &TAKING, &["path"]),
-            path_at(table, "path"),
-        ) {
-            Ok((_, path)) => Ok(Kind::Sink {
+        match both(known_alone(table, &TAKING, &["path", "form"]), own) {
+            Ok((_, (path, form))) => Ok(Kind::Sink {
                 path: Text::from_str(alloc, path)?,
-                form: SinkForm::Raw,
+                form: form.of_sink(),
             }),
             Err(field) => Err(field),
         },
@@ -128,7 +123,7 @@ fn delay_at<'a>(table: &'a Table) -> Result<Kind, &'a str>
 {
     match both(
         known_alone(table, &TAKING, &["by"]),
-        integer_at(table, "by"),
+        integer_at(table, "by", i64::MIN, i64::MAX),
     ) {
         Ok((_, by)) => Ok(Kind::Delay { by }),
         Err(field) => Err(field),

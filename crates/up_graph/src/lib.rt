@@ -5,6 +5,7 @@ mod attr_value;
 mod document;
 mod faults;
 mod field;
+mod form;
 mod graph_refused;
 mod kinds;
 mod laws;

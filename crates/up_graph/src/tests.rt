@@ -1,9 +1,11 @@
 mod attr_tables;
+mod form_tables;
 mod graphs;
 mod tables;
 mod words;
 
 use self::attr_tables::{DELAY_PIPES, MATCH_ATTR_PIPES, SETATTR_PIPES};
+use self::form_tables::{SINK_FORMS, SOURCE_FORMS};
 use self::graphs::GRAPHS;
 use self::tables::{FIRST_PIPES, MIDDLE_PIPES, SPELLINGS, TOPS};
 use self::words::{answer, input_words, pipe_words, refusal_words};
@@ -124,6 +126,17 @@ fn each_kind_has_its_fields_and_the_least_wrong_one_is_told(rt: HostRuntime) -> 
     let wrong = wrong_pipes(&rt, "", &FIRST_PIPES, sink, 0)?;
     assert_eq!(rt; wrong.as_str(), "");
     let wrong = wrong_pipes(&rt, source, &MIDDLE_PIPES, end, 1)?;
+    assert_eq!(rt; wrong.as_str(), "");
+    Ok(())
+}
+
+#[test]
+fn a_form_is_raw_or_framed_and_no_block_stands_beside_framed(rt: HostRuntime) -> Result<(), Fail> {
+    let source = "{name = 'a', kind = 'source', path = 'i'}, ";
+    let sink = ", {name = 'b', kind = 'sink', input = 'a', path = 'o'}";
+    let wrong = wrong_pipes(&rt, "", &SOURCE_FORMS, sink, 0)?;
+    assert_eq!(rt; wrong.as_str(), "");
+    let wrong = wrong_pipes(&rt, source, &SINK_FORMS, "", 1)?;
     assert_eq!(rt; wrong.as_str(), "");
     Ok(())
 }

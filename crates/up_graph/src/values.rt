@@ -111,13 +111,13 @@ pub fn short_number_at<'a>(
     }
 }
 
-/// The integer at a key, below 0 or not.
-pub fn integer_at<'a>(table: &Table, key: &'a str) -> Result<i64, &'a str>
+/// The integer at a key, from `low` to `high`, below 0 or not.
+pub fn integer_at<'a>(table: &Table, key: &'a str, low: i64, high: i64) -> Result<i64, &'a str>
     ensures { seen (λ number. number) result
-        ≡ given (an_integer key.entry.now) (table_view table.now) }
+        ≡ given (an_integer key.entry.now low high) (table_view table.now) }
 {
     match value_at(table, key) {
-        Some(Value::Integer(number)) => Ok(*number),
+        Some(Value::Integer(number)) if low <= *number && *number <= high => Ok(*number),
         _ => Err(key),
     }
 }

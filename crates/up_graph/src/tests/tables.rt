@@ -94,7 +94,7 @@ pub static SPELLINGS: [(&str, &str); 11] = [
 ];
 
 /// The fields of pipe 1, before a sink that takes from `a`: what is read of it.
-pub static FIRST_PIPES: [(&str, &str); 59] = [
+pub static FIRST_PIPES: [(&str, &str); 58] = [
     (
         "name='a',kind='source',path='i'",
         "source i 4096 1099511627776",
@@ -193,7 +193,6 @@ pub static FIRST_PIPES: [(&str, &str); 59] = [
     ("name='a',kind='source',path='i',catch=[]", "1: catch"),
     ("name='a',kind='source',path='i',queue=64", "1: queue"),
     ("name='a',kind='source',path='i',select=0", "1: select"),
-    ("name='a',kind='source',path='i',form='raw'", "1: form"),
     ("name='a',kind='source',path='i',bytes=1", "1: bytes"),
     ("name='a',kind='source',path='i',''=1", "1: "),
     ("name='a',kind='source',path='i',Path='i'", "1: Path"),
@@ -205,7 +204,7 @@ pub static FIRST_PIPES: [(&str, &str); 59] = [
 ];
 
 /// The fields of pipe 2, between a source `a` and a sink that takes from `b`: what is read of it.
-pub static MIDDLE_PIPES: [(&str, &str); 54] = [
+pub static MIDDLE_PIPES: [(&str, &str); 53] = [
     ("name='b',kind='idem',input='a'", "idem < 0"),
     ("name='b',kind='idem',input=['a']", "idem < 0"),
     ("name='b',kind='dup',input='a'", "dup < 0"),
@@ -262,10 +261,6 @@ pub static MIDDLE_PIPES: [(&str, &str); 54] = [
     ("name='b',kind='delattr',attr='k'", "2: input"),
     ("name='b',kind='sink',input='a'", "2: path"),
     ("name='b',kind='sink',input=1", "2: input"),
-    (
-        "name='b',kind='sink',input='a',path='p',form='raw'",
-        "2: form",
-    ),
     (
         "name='b',kind='sink',input='a',path='p',block=1",
         "2: block",

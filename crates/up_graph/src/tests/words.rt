@@ -4,7 +4,7 @@ ghost use Rattle.std.specs.Prelude.{◌<◌, length, string_bytes, IfOk};
 use crate::{GraphRefused, read_graph};
 use std::string::String;
 use std::test::*;
-use up_model::{Graph, Kind, Pipe, SourceForm, Value};
+use up_model::{Graph, Kind, Pipe, SinkForm, SourceForm, Value};
 
 /// A refusal with its numbers.
 pub fn refusal_words(rt: &HostRuntime, refused: &GraphRefused) -> Result<String, Fail> {
@@ -55,7 +55,19 @@ fn kind_words(rt: &HostRuntime, kind: &Kind) -> Result<String, Fail>
             form: SourceForm::Raw { block },
             limit,
         } => format!(in alloc; "source {} {block} {limit}", path.as_str())?,
-        Kind::Sink { path, .. } => format!(in alloc; "sink {}", path.as_str())?,
+        Kind::Source {
+            path,
+            form: SourceForm::Framed,
+            limit,
+        } => format!(in alloc; "source {} framed {limit}", path.as_str())?,
+        Kind::Sink {
+            path,
+            form: SinkForm::Raw,
+        } => format!(in alloc; "sink {}", path.as_str())?,
+        Kind::Sink {
+            path,
+            form: SinkForm::Framed,
+        } => format!(in alloc; "sink {} framed", path.as_str())?,
         Kind::Idem => format!(in alloc; "idem")?,
         Kind::Null => format!(in alloc; "null")?,
         Kind::Dup => format!(in alloc; "dup")?,
