@@ -10,14 +10,13 @@ use Rattle.std.proofs.lemmas.List.Filters.{length-filter_more}
 use Rattle.std.proofs.lemmas.Option.{slice_get-get_or}
 use Rattle.up_base.specs.ReservedList.{Reserved}
 use Rattle.up_model.proofs.WellFormed.{is_pipe}
-use Rattle.up_model.specs.Chain.{IsRawSink}
-use Rattle.up_model.specs.Ends.{is_sink}
+use Rattle.up_model.specs.Ends.{written_by}
 use Rattle.up_model.specs.Inputs.{passes_at}
 use Rattle.up_model.specs.Kinds.{IsWithinBounds}
 use Rattle.up_model.specs.Plans.{ends_at_sink, outlets_of, strand_of}
 use Rattle.up_model.specs.WellFormed.{IsWellFormed}
+use Rattle.up_model.specs.declared.form.SinkForm.{SinkForm}
 use Rattle.up_model.specs.declared.form.SinkForm.TheVariants as sink_forms
-use Rattle.up_model.specs.declared.kind.Kind.{Kind}
 use Rattle.up_model.specs.declared.kind.Kind.TheVariants as kinds
 use Rattle.up_model.specs.declared.pipe.Pipe.{Pipe}
 use Rattle.up_model.specs.declared.plain_packet.PlainPacket.{PlainPacket}
@@ -29,6 +28,7 @@ use Rattle.up_strand.specs.Making.{CanBegin, HasBegun, is_sink_in, node_place, o
 use Rattle.up_strand.specs.StrandCalls.{told_of}
 use Rattle.up_strand.specs.Nodes.{NodeStands, PartStands, Seat, has_ended, has_failed, is_outlet}
 use Rattle.up_strand.specs.Shapes.{IsShapeOf, input_in}
+use Rattle.up_strand.specs.Spellings.{IsSinkOf, form_of}
 use Rattle.up_strand.specs.Values.{value_at}
 use Rattle.up_strand.specs.Writing.{Receives}
 use Rattle.up_strand.specs.declared.node.Node.{Node}
@@ -36,6 +36,7 @@ use Rattle.up_strand.specs.declared.node.Part.{Part}
 use Rattle.up_strand.specs.declared.node.Part.TheVariants.{Sink}
 use Rattle.up_strand.specs.declared.node.Takers.{Takers}
 use Rattle.up_strand.specs.declared.shape.Shape.{Shape}
+use Rattle.up_strand.specs.declared.spelling.Spelling.{Spelling}
 
 counts_none : (n : ℕ) → CountsOnce false n n
 counts_none n = record {
@@ -43,22 +44,17 @@ counts_none n = record {
   once = omega arith;
 }
 
-raw_sink : (kind : Kind) → is_sink kind ≡ true → IsRawSink kind
-raw_sink (kinds.Source path form limit) is = absurd (cc)
-raw_sink (kinds.Sink path sink_forms.Raw) is = tt
-raw_sink kinds.Idem is = absurd (cc)
-raw_sink kinds.Null is = absurd (cc)
-raw_sink kinds.Dup is = absurd (cc)
-raw_sink (kinds.Skip bytes) is = absurd (cc)
-raw_sink (kinds.SetAttr attr value) is = absurd (cc)
-raw_sink (kinds.DelAttr attr) is = absurd (cc)
-raw_sink (kinds.MatchAttr attr low high) is = absurd (cc)
-raw_sink (kinds.Delay by) is = absurd (cc)
+nothing_written : (form : SinkForm) → written_by form [] ≡ []
+nothing_written sink_forms.Raw = refl
+nothing_written sink_forms.Framed = refl
 
 -- a sink that was given nothing
-pub sink_begins : {K : Type 0} (state : K → SinkState) (seat : Seat) (kind : Kind) (sink : K) → seat.kind ≡ Some kind → is_sink kind ≡ true → seat.start ≡ state sink
-    → MatchOption seat.kind ⊥ IsRawSink × Receives seat.start (state sink) true [] × CountsOnce false seat.start.faults (state sink).faults
-sink_begins state seat kind sink is sinks start = rw (is, start) ((raw_sink kind sinks, receives_nothing (state sink) true, counts_none (state sink).faults))
+pub sink_begins : {K : Type 0} (state : K → SinkState) (seat : Seat) (path : List ℕ) (form : SinkForm) (sink : K) (spelling : Spelling)
+    → seat.kind ≡ Some (kinds.Sink path form) → form_of spelling ≡ form → seat.start ≡ state sink
+    → MatchOption seat.kind ⊥ (IsSinkOf (form_of spelling)) × Receives seat.start (state sink) true (written_by (form_of spelling) [])
+    × CountsOnce false seat.start.faults (state sink).faults
+sink_begins state seat path form sink spelling is same start =
+    rw (is, same, start, nothing_written form) ((refl, receives_nothing (state sink) true, counts_none (state sink).faults))
 
 pub one_plus : (n : ℕ) → 1 + n ≡ suc n
 one_plus n = omega arith
@@ -215,7 +211,7 @@ module _ (pipes : List Pipe) (well : IsWellFormed pipes) (shape : Shape) (told :
         → node.out.packets ≡ []
         → ((seat : Seat) → IfSome seat.kind IsWithinBounds → PartStands plain state seat false part [] → NodeStands plain state seat node [] [])
         → PartStands plain state (seat_in pipes shape told i) false part []
-        → ((sink : K) (failed : Bool) → part ≡ Sink sink failed → (seat_in pipes shape told i).start ≡ state sink)
+        → ((sink : K) (spelling : Spelling) (failed : Bool) → part ≡ Sink sink spelling failed → (seat_in pipes shape told i).start ≡ state sink)
         → input ≡ input_in shape.inputs.items i → takers ≡ get_or shape.takers.items i None
         → is_outlet part ≡ nat_le shape.pipes i → has_ended part ≡ false → has_failed part ≡ false
         → HasBegun pipes shape plain state told i node
@@ -225,7 +221,7 @@ module _ (pipes : List Pipe) (well : IsWellFormed pipes) (shape : Shape) (told :
           input = ap (λ (n : Node P K). n.input) made ∙ input_is;
           takers = ap (λ (n : Node P K). n.takers) made ∙ takers_is;
           outlet = rw part_is outlet;
-          start = λ sink failed is. start sink failed (sym part_is ∙ is);
+          start = λ sink spelling failed is. start sink spelling failed (sym part_is ∙ is);
           failed = rw part_is works;
           empty = empty;
           sound = record { long = ap (λ (n : Node P K). n.short) made; going = rw part_is going };

@@ -10,7 +10,8 @@ use Rattle.up_model.specs.declared.catch_set.CatchSet.{CatchSet}
 use Rattle.up_model.specs.declared.tally.Tally.{Tally}
 use Rattle.up_strand.proofs.Begun.{more_at}
 use Rattle.up_strand.proofs.Lists.{left_next}
-use Rattle.up_strand.specs.Closing.{AreToldFirst, AreWithoutSinks, holds_sink, outcome_at, sinks_in, sinks_of_nodes}
+use Rattle.up_strand.specs.Closing.{AreToldFirst, AreWithoutSinks, outcome_at, sinks_in, sinks_of_nodes}
+use Rattle.up_strand.specs.Nodes.{holds_sink}
 use Rattle.up_strand.specs.declared.closing.Ending.{Ending}
 use Rattle.up_strand.specs.declared.closing.Told.{Told}
 use Rattle.up_strand.specs.declared.node.Node.{Node}

@@ -11,7 +11,7 @@ use Rattle.std.proofs.lemmas.List.Sums.{fails_before_first, passes_at_first, pos
 use Rattle.up_strand.specs.Nodes.{is_outlet}
 use Rattle.up_strand.specs.Strands.{first_ready, has_item, item_waits, kept_at, place_of, want_of, wants_in}
 use Rattle.up_strand.specs.declared.intake.Intake.{Intake}
-use Rattle.up_strand.specs.declared.intake.Intake.TheVariants.{FromSource, FromLane}
+use Rattle.up_strand.specs.declared.intake.Intake.TheVariants.{FromSource, FromFrames, FromLane}
 use Rattle.up_strand.specs.declared.node.Node.{Node}
 use Rattle.up_strand.specs.declared.strand.Strand.{Strand}
 use Rattle.up_strand.specs.declared.tree.Tree.{Tree}
@@ -143,4 +143,5 @@ module _ {P S K : Type 0} where
       nothing_out : (ended : Bool) (intake : Intake S) → (if ended then Done else wants_in strand intake) ≡ Output lane → ⊥
       nothing_out true intake same = cc
       nothing_out false (FromSource source block limit left) same = cc
+      nothing_out false (FromFrames frames) same = cc
       nothing_out false FromLane same = cc

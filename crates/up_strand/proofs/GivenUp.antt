@@ -6,14 +6,13 @@ use Rattle.std.specs.Option.{option_map_or}
 use Rattle.std.proofs.lemmas.Bool.{cases_Bool, cases_lt, le-leb}
 use Rattle.std.proofs.lemmas.List.{get_or-map, get_or-take, get_or_default, length-append, length-map, length-take-le}
 use Rattle.std.proofs.lemmas.Option.{same_Some, slice_get-get_or, slice_get_within, get_or_from_slice_get}
-use Rattle.up_model.specs.Chain.{IsRawSink}
 use Rattle.up_model.specs.Ends.{is_sink, is_source}
 use Rattle.up_model.specs.Inputs.{passes_at}
 use Rattle.up_model.specs.Meaning.{selected}
 use Rattle.up_model.specs.Packet.{Flow}
 use Rattle.up_model.specs.Plans.{ends_at_sink, outlets_of, sinks_of, strand_of}
 use Rattle.up_model.specs.Tallies.{IsAtMost, uncaught}
-use Rattle.up_model.specs.declared.form.SinkForm.TheVariants.{Raw}
+use Rattle.up_model.specs.declared.form.SinkForm.{SinkForm}
 use Rattle.up_model.specs.declared.catch_set.CatchSet.{CatchSet}
 use Rattle.up_model.specs.declared.kind.Kind.{Kind}
 use Rattle.up_model.specs.declared.kind.Kind.TheVariants as kinds
@@ -28,11 +27,12 @@ use Rattle.up_strand.proofs.NodeSteps.{any_has_module}
 use Rattle.up_strand.proofs.Reaching.{same_kind}
 use Rattle.up_strand.proofs.Told.{outcome_is}
 use Rattle.up_strand.specs.AnyModule.{any_kind, has_module}
-use Rattle.up_strand.specs.Closing.{AreTold, AreWithoutSinks, holds_sink, outcome_at, sinks_in, sinks_of_nodes}
+use Rattle.up_strand.specs.Closing.{AreTold, AreWithoutSinks, outcome_at, sinks_in, sinks_of_nodes}
 use Rattle.up_strand.specs.Gifts.{NodesFit}
 use Rattle.up_strand.specs.History.{History, sums_at, told_at, told_at_last}
 use Rattle.up_strand.specs.Making.{catches_nothing}
-use Rattle.up_strand.specs.Nodes.{PartStands, Seat, is_outlet}
+use Rattle.up_strand.specs.Nodes.{PartStands, Seat, is_outlet, holds_sink}
+use Rattle.up_strand.specs.Spellings.{IsSinkOf, form_of}
 use Rattle.up_strand.specs.StrandCalls.{SinkEnds}
 use Rattle.up_strand.specs.Strands.{StandsFor, outcome_of_part, place_of}
 use Rattle.up_strand.specs.Tree.{AllAt}
@@ -41,6 +41,7 @@ use Rattle.up_strand.specs.declared.closing.Told.{Told}
 use Rattle.up_strand.specs.declared.node.Node.{Node}
 use Rattle.up_strand.specs.declared.node.Part.{Part}
 use Rattle.up_strand.specs.declared.node.Part.TheVariants.{Head, Pipe as PipePart, Sink, Outlet, Ended}
+use Rattle.up_strand.specs.declared.spelling.Spelling.{Spelling}
 use Rattle.up_strand.specs.declared.strand.Strand.{Strand}
 
 -- items that are told one by one
@@ -60,7 +61,7 @@ an_item (x ∷ xs) i within = x
 outlet_is_none : {K : Type 0} (part : Part K) → is_outlet part ≡ true → holds_sink part ≡ false
 outlet_is_none Head is = absurd (cc)
 outlet_is_none (PipePart m) is = absurd (cc)
-outlet_is_none (Sink sink failed) is = absurd (cc)
+outlet_is_none (Sink sink spelling failed) is = absurd (cc)
 outlet_is_none Outlet is = refl
 outlet_is_none (Ended whole) is = absurd (cc)
 
@@ -73,9 +74,9 @@ module_is_none (kinds.Source path form limit) has = refl
 module_is_none (kinds.Sink path form) has = absurd (cc)
 module_is_none kind has = refl
 
-raw_is_one : (kind : Kind) → IsRawSink kind → true ≡ is_sink kind
-raw_is_one (kinds.Sink path Raw) is = refl
-raw_is_one kind is = absurd is
+sink_is_one : (form : SinkForm) (kind : Kind) → IsSinkOf form kind → true ≡ is_sink kind
+sink_is_one form (kinds.Sink path own) is = refl
+sink_is_one form kind is = absurd is
 
 -- a part is a sink where its kind is
 part_is_sink : {P K : Type 0} (plain : P → PlainPacket) (state : K → SinkState) (seat : Seat) (kind : Kind) (short : Bool) (part : Part K) (fed : Flow)
@@ -83,7 +84,7 @@ part_is_sink : {P K : Type 0} (plain : P → PlainPacket) (state : K → SinkSta
 part_is_sink plain state seat kind short Head fed is inner part = source_is_none kind (rw is at part)
 part_is_sink plain state seat kind short (PipePart m) fed is inner part =
     module_is_none kind (ap has_module (same_Some kind (any_kind m) (sym is ∙ part.0)) ∙ any_has_module m)
-part_is_sink plain state seat kind short (Sink sink failed) fed is inner part = raw_is_one kind (rw is at part.0)
+part_is_sink plain state seat kind short (Sink sink spelling failed) fed is inner part = sink_is_one (form_of spelling) kind (rw is at part.0)
 part_is_sink plain state seat kind short Outlet fed is inner part = absurd (cc)
 part_is_sink plain state seat kind short (Ended whole) fed is inner part = module_is_none kind (rw is at part)
 
@@ -92,19 +93,20 @@ module _ {K : Type 0} where
   none_in : (part : Part K) → holds_sink part ≡ false → sinks_in part ≡ []
   none_in Head none = refl
   none_in (PipePart m) none = refl
-  none_in (Sink sink failed) none = absurd (cc)
+  none_in (Sink sink spelling failed) none = absurd (cc)
   none_in Outlet none = refl
   none_in (Ended whole) none = refl
 
   record HoldsSink (part : Part K) : Type 0 where
     pub sink : K
+    pub spelling : Spelling
     pub failed : Bool
-    pub is : part ≡ Sink sink failed
+    pub is : part ≡ Sink sink spelling failed
 
   one_in : (part : Part K) → holds_sink part ≡ true → HoldsSink part
   one_in Head has = absurd (cc)
   one_in (PipePart m) has = absurd (cc)
-  one_in (Sink sink failed) has = record { sink = sink; failed = failed; is = refl }
+  one_in (Sink sink spelling failed) has = record { sink = sink; spelling = spelling; failed = failed; is = refl }
   one_in Outlet has = absurd (cc)
   one_in (Ended whole) has = absurd (cc)
 
@@ -138,8 +140,9 @@ module _ {P K : Type 0} where
       pub i : ℕ
       pub within : i < length own
       pub place_is : get_or own i 0 ≡ place
+      pub spelling : Spelling
       pub failed : Bool
-      pub part : (d : Node P K) → (get_or nodes i d).part ≡ Sink given failed
+      pub part : (d : Node P K) → (get_or nodes i d).part ≡ Sink given spelling failed
 
     behind : (node : Node P K) (nodes : List (Node P K)) (first : ℕ) (own : List ℕ) (place : ℕ) (given : K)
         → IsSinkAt nodes own place given → IsSinkAt (node ∷ nodes) (first ∷ own) place given
@@ -147,6 +150,7 @@ module _ {P K : Type 0} where
       i = suc sink.i;
       within = omega (arith, sink.within);
       place_is = sink.place_is;
+      spelling = sink.spelling;
       failed = sink.failed;
       part = sink.part;
     }
@@ -166,6 +170,7 @@ module _ {P K : Type 0} where
                 i = 0;
                 within = omega arith;
                 place_is = refl;
+                spelling = one.spelling;
                 failed = one.failed;
                 part = λ e. one.is;
               } in
@@ -302,7 +307,7 @@ module _ {P S K : Type 0} (plain : P → PlainPacket) (reads : S → SourceState
         let node = an_item nodes sink.i (is_within sink.i inside) in
         let is : place_of strand sink.i ≡ place =
         place_of_pipe plain reads writes strand h stands sink.i inside ∙ sink.place_is ∙ get_or_from_slice_get (sinks_of h.pipes h.head) k place 0 at in
-        let part : (get_or nodes sink.i node).part ≡ Sink given sink.failed = sym (ap (λ (n : Node P K). n.part) (first_item sink.i node inside)) ∙ sink.part node in
+        let part : (get_or nodes sink.i node).part ≡ Sink given sink.spelling sink.failed = sym (ap (λ (n : Node P K). n.part) (first_item sink.i node inside)) ∙ sink.part node in
         let ends : SinkEnds h (place_of strand sink.i) pipe (writes given) =
-        sink_ends plain reads writes strand h stands sink.i node given sink.failed pipe (is_within sink.i inside) part (ap (slice_get h.pipes) is ∙ there) in
+        sink_ends plain reads writes strand h stands sink.i node given sink.spelling sink.failed pipe (is_within sink.i inside) part (ap (slice_get h.pipes) is ∙ there) in
         subst (λ (sinks : List K). SinkEnds h place pipe (writes (get_or sinks k d))) (sym are.sinks) (subst (λ (p : ℕ). SinkEnds h p pipe (writes given)) is ends)

@@ -9,7 +9,7 @@ use Rattle.up_model.specs.declared.plain_packet.PlainPacket.{PlainPacket}
 use Rattle.up_outside.specs.States.{SinkState}
 use Rattle.up_strand.proofs.Lists.{done_next, left_next}
 use Rattle.up_strand.specs.Gifts.{Given, Gave, share}
-use Rattle.up_strand.specs.Nodes.{IsTaking, IsSound, IsAsPlaced, NodeStands, Took, has_failed, takes_from}
+use Rattle.up_strand.specs.Nodes.{IsTaking, IsSound, IsAsPlaced, NodeStands, Took, has_failed, holds_sink, takes_from}
 use Rattle.up_strand.specs.Tree.{AreBetween}
 use Rattle.up_strand.specs.declared.node.Node.{Node}
 use Rattle.up_strand.specs.declared.node.Takers.{Takers}
@@ -31,7 +31,7 @@ pub share_all : (input : Option ℕ) (place : ℕ) (flow : Flow) → takes_from 
 share_all input place flow takes = rw takes refl
 
 pub placed_itself : {P K : Type 0} (node : Node P K) → IsAsPlaced node node
-placed_itself node = record { input = refl; takers = refl; outlet = refl; stopped = λ failed. refl }
+placed_itself node = record { input = refl; takers = refl; outlet = refl; stopped = λ failed. refl; fallen = λ short. short; still = λ short sink. refl }
 
 pub placed_on : {P K : Type 0} (a b c : Node P K) → IsAsPlaced a b → IsAsPlaced b c → IsAsPlaced a c
 placed_on a b c one two = record {
@@ -39,6 +39,8 @@ placed_on a b c one two = record {
   takers = two.takers ∙ one.takers;
   outlet = two.outlet ∙ one.outlet;
   stopped = λ failed. two.stopped (ap has_failed (one.stopped failed) ∙ failed) ∙ one.stopped failed;
+  fallen = λ short. two.fallen (one.fallen short);
+  still = λ short sink. let later = two.still (one.fallen short) sink in later ∙ one.still short (ap holds_sink (sym later) ∙ sink);
 }
 
 module _ {P K : Type 0} (plain : P → PlainPacket) (state : K → SinkState) where

@@ -101,12 +101,9 @@ blocks_at_a_fault = refl
 pub blocks_at_the_limit : head_flow (after (codes "abcdefghij") (Some (TooLong limit)) false false) ≡ plain (codes "abcd") ∷ plain (codes "efgh") ∷ []
 blocks_at_the_limit = refl
 
--- so much is due to the sink behind the `skip`, which drops a packet of two bytes, and for the lane; also where the sink failed
+-- so much is due to the sink behind the `skip`, which drops a packet of two bytes; also where the sink failed
 pub due_to_a_sink : bytes_due (after (codes "abcdef") (Some Whole) false true) 3 first_sink (doing (Some Whole)) ≡ codes "d"
 due_to_a_sink = refl
-
-pub due_for_a_lane : flow_due (after (codes "abcdef") None false false) 5 other_worker (doing None) ≡ plain (codes "abcd") ∷ []
-due_for_a_lane = refl
 
 -- the `skip` cut five bytes, which it catches, and dropped a packet, which it doesn't
 pub past_its_own_probe : sums_at (after (codes "abcdef") (Some Whole) false false) 2
@@ -117,8 +114,12 @@ past_its_own_probe = refl
 pub ends_passed_on : (end_by false (Some Whole) ≡ ends.Whole) × (end_by true (Some Whole) ≡ ends.Broken) × (end_by false (Some ReadFault) ≡ ends.Broken)
 ends_passed_on = (refl, refl, refl)
 
+-- the flow of the source goes on, and it put out the one whole block
 abbrev read_once : History
-read_once = after (codes "abcdef") None false false
+read_once = record (after (codes "abcdef") None false false) { fed = plain (codes "abcd") ∷ [] }
+
+pub due_for_a_lane : flow_due read_once 5 other_worker (doing None) ≡ plain (codes "abcd") ∷ []
+due_for_a_lane = refl
 
 -- what was taken out for one lane was taken out for no other
 abbrev sent_once : History

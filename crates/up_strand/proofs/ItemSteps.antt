@@ -12,24 +12,24 @@ use Rattle.up_strand.proofs.ReadSteps.{fed_more, fed_still, same_first}
 use Rattle.up_queue.specs.declared.end_kind.EndKind.{EndKind}
 use Rattle.up_queue.specs.declared.item.Item.{Item}
 use Rattle.up_queue.specs.declared.item.Item.TheVariants.{Packet, End}
-use Rattle.up_strand.proofs.StrandSteps.{goes_on, looked_as, none_is_ready, sinks_after, source_in, stepped_on, still_stopped, tree_going}
+use Rattle.up_strand.proofs.StrandSteps.{goes_on, looked_as, none_is_ready, sinks_after, source_in, stepped_on, still_stopped, still_told, tree_going}
 use Rattle.up_strand.specs.History.{History, head_flow, carried_by}
 use Rattle.up_strand.specs.Steps.{IsGoing, OnceLooked, TreeIs, TreeTook, taken_where}
 use Rattle.up_strand.specs.StrandCalls.{SteppedItem, end_in, is_done, is_output, packets_in}
 use Rattle.up_strand.specs.Strands.{IsBehindLane, IsEndOfLane, StandsFor, StandsForSome, StrandFits, first_ready, has_failed_at, want_of}
 use Rattle.up_strand.specs.declared.intake.Intake.{Intake}
-use Rattle.up_strand.specs.declared.intake.Intake.TheVariants.{FromSource, FromLane}
+use Rattle.up_strand.specs.declared.intake.Intake.TheVariants.{FromSource, FromFrames, FromLane}
 use Rattle.up_strand.specs.declared.strand.Strand.{Strand}
 use Rattle.up_strand.specs.declared.tree.Tree.{Tree}
 use Rattle.up_strand.specs.declared.want.Want.TheVariants.{Read, Input}
 
 -- the head behind a lane has what came through it
 flow_of_lane : (h : History) (pipe : Option Pipe) → option_map_or (λ p. not (is_source p.kind)) pipe false ≡ true
-    → option_map_or (λ p. if is_source p.kind then carried_by h.ended p.kind h.read else h.came) pipe [] ≡ h.came
+    → option_map_or (λ p. if is_source p.kind then carried_by h.ended h.fed p.kind h.read else h.came) pipe [] ≡ h.came
 flow_of_lane h None fed = absurd (cc)
 flow_of_lane h (Some pipe) fed = by_source (is_source pipe.kind) refl
   where
-    by_source : (b : Bool) → is_source pipe.kind ≡ b → (if is_source pipe.kind then carried_by h.ended pipe.kind h.read else h.came) ≡ h.came
+    by_source : (b : Bool) → is_source pipe.kind ≡ b → (if is_source pipe.kind then carried_by h.ended h.fed pipe.kind h.read else h.came) ≡ h.came
     by_source true is = let wrong : false ≡ true = rw is at fed in absurd (cc)
     by_source false is = rw is refl
 
@@ -48,6 +48,10 @@ module _ {P S K : Type 0} (plain : P → PlainPacket) (reads : S → SourceState
   behind : (intake : Intake S) → old.intake ≡ intake → old.intake ≡ FromLane
   behind FromLane is = is
   behind (FromSource source block limit left) is =
+      let none = none_is_ready old not_output in
+      let none_ended = goes_on old not_output not_done in
+      let wrong : Read ≡ Input = rw (none, none_ended, is) at wants in absurd (cc)
+  behind (FromFrames frames) is =
       let none = none_is_ready old not_output in
       let none_ended = goes_on old not_output not_done in
       let wrong : Read ≡ Input = rw (none, none_ended, is) at wants in absurd (cc)
@@ -110,7 +114,7 @@ module _ {P S K : Type 0} (plain : P → PlainPacket) (reads : S → SourceState
   old_is_going fits family stood fit = tree_going plain reads writes fits family old stood.0 stood.1 (sym stood.1.ended.ended ∙ old_goes_on) fit
 
   module _ (item : Item P) (now : Strand P S K) (ended : Option Outcome) (fed : Flow) (same : now ≡ record old { tree = now.tree; ended = ended })
-      (ends : IsEndOfLane ended) (is_end : ended ≡ end_in item) (took : TreeTook plain writes old.tree now.tree fed) (is : TreeIs now.tree ended) where
+      (ends : IsEndOfLane ended) (is_end : ended ≡ end_in item) (none : old.tree.short ≡ true → fed ≡ []) (took : TreeTook plain writes old.tree now.tree fed) (is : TreeIs now.tree ended) where
     -- it took the item
     item_taken : ((h : History) → StandsFor plain reads writes old h
         → IsPrefix (h.fed ++ fed) (h.came ++ packets_in plain item) × (now.tree.short ≡ false → h.fed ++ fed ≡ h.came ++ packets_in plain item))
@@ -131,6 +135,11 @@ module _ {P S K : Type 0} (plain : P → PlainPacket) (reads : S → SourceState
             stays = λ short. took.stays (stood.ended.short ∙ short);
             stopped = still_stopped plain reads writes old h (record old { tree = now.tree; ended = ended; last = None; ready = ready }) stood refl
                 took.nodes.count took.nodes.placed;
+            given_up = λ short. (
+              none (stood.ended.short ∙ short),
+              still_told plain reads writes old h (record old { tree = now.tree; ended = ended; last = None; ready = ready }) stood refl
+                  took.nodes.count took.nodes.placed short,
+            );
           };
           unread = refl;
           uncalled = uncalled plain reads writes old now.tree ended ready h [] fed wants stood;
@@ -145,7 +154,7 @@ module _ {P S K : Type 0} (plain : P → PlainPacket) (reads : S → SourceState
       → TreeIs now.tree None → OnceLooked now (λ strand. (h : History) → StandsFor plain reads writes old h → SteppedItem plain reads writes strand h (Packet p))
   packet_taken p now same took is =
       item_taken (Packet p) now None (taken_where old.tree.short (plain p)) (same ∙ ap (λ (e : Option Outcome). record old { tree = now.tree; ended = e }) old_goes_on)
-      tt refl took is
+      tt refl (λ short. rw short refl) took is
       (λ h stood.
       let flow = lane_flow h stood in
       fed_more h.fed h.came (plain p) old.tree.short now.tree.short took.stays (rw flow at stood.fed.first)
@@ -156,7 +165,7 @@ module _ {P S K : Type 0} (plain : P → PlainPacket) (reads : S → SourceState
       → IsEndOfLane (Some outcome) → Some outcome ≡ end_in {P = P} (End kind) → TreeTook plain writes old.tree now.tree [] → TreeIs now.tree (Some outcome)
       → OnceLooked now (λ strand. (h : History) → StandsFor plain reads writes old h → SteppedItem plain reads writes strand h (End kind))
   end_taken kind outcome now same ends is_end took is =
-      item_taken (End kind) now (Some outcome) [] same ends is_end took is
+      item_taken (End kind) now (Some outcome) [] same ends is_end (λ short. refl) took is
       (λ h stood.
       let flow = lane_flow h stood in
       fed_still h.fed h.came (h.came ++ []) old.tree.short now.tree.short took.stays (rw flow at stood.fed.first)

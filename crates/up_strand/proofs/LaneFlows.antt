@@ -28,7 +28,7 @@ use Rattle.up_strand.specs.Nodes.{Seat, PartStands, node_work, is_outlet, is_who
 use Rattle.up_strand.specs.StrandCalls.{HasMoreDue, HasNoneWaiting, LaneStands, is_output}
 use Rattle.up_strand.specs.Strands.{StandsFor, first_ready, has_item, item_waits, kept_at, place_of, want_of, wants_in}
 use Rattle.up_strand.specs.declared.intake.Intake.{Intake}
-use Rattle.up_strand.specs.declared.intake.Intake.TheVariants.{FromSource, FromLane}
+use Rattle.up_strand.specs.declared.intake.Intake.TheVariants.{FromSource, FromFrames, FromLane}
 use Rattle.up_strand.specs.declared.node.Node.{Node}
 use Rattle.up_strand.specs.declared.node.Part.{Part}
 use Rattle.up_strand.specs.declared.node.Part.TheVariants.{Head, Pipe as PipePart, Sink, Outlet, Ended}
@@ -40,7 +40,7 @@ outlet_has_no_kind : {P K : Type 0} (plain : P → PlainPacket) (writes : K → 
     → PartStands plain writes seat short part fed → seat.kind ≡ None
 outlet_has_no_kind plain writes seat short Head fed outlet part = absurd (cc)
 outlet_has_no_kind plain writes seat short (PipePart m) fed outlet part = absurd (cc)
-outlet_has_no_kind plain writes seat short (Sink sink failed) fed outlet part = absurd (cc)
+outlet_has_no_kind plain writes seat short (Sink sink spelling failed) fed outlet part = absurd (cc)
 outlet_has_no_kind plain writes seat short Outlet fed outlet part = part
 outlet_has_no_kind plain writes seat short (Ended whole) fed outlet part = absurd (cc)
 
@@ -127,6 +127,7 @@ module _ {P S K : Type 0} (plain : P → PlainPacket) (reads : S → SourceState
     (stands : StandsFor plain reads writes strand h) where
   goes_on : (intake : Intake S) → wants_in strand intake ≡ Done → ⊥
   goes_on (FromSource source block limit left) is = cc
+  goes_on (FromFrames frames) is = cc
   goes_on FromLane is = cc
 
   module _ (at : ℕ) (d : Node P K) (within : at < length strand.tree.nodes.items) (there : slice_get strand.tree.nodes.items at ≡ Some d)
@@ -355,6 +356,7 @@ module _ {P S K : Type 0} (plain : P → PlainPacket) (reads : S → SourceState
 
   comes_in : (intake : Intake S) → is_output (wants_in strand intake) ≡ false
   comes_in (FromSource source block limit left) = refl
+  comes_in (FromFrames frames) = refl
   comes_in FromLane = refl
 
   -- a strand that is done has come to its end

@@ -4,9 +4,12 @@ pub mod Closed
 pub mod Cutting
 pub mod Finishing
 pub mod Found
+pub mod FrameSteps
+pub mod FrameStrands
 pub mod GivenUp
 pub mod Gives
 pub mod HeadFlows
+pub mod HeadPackets
 pub mod HistoryExamples
 pub mod ItemSteps
 pub mod LaneFlows

@@ -4,7 +4,6 @@ use Rattle.std.specs.Prelude.{nat_le, nat_lt, option_and_then}
 use Rattle.std.specs.List.{Contains, filter, position, position_or_len, range_with_len}
 use Rattle.std.specs.Option.{option_map_or}
 use Rattle.std.proofs.lemmas.Bool.{cases_Bool, cases_lt, lt-ltb, le-leb, leb-true, ltb-true}
-use Rattle.std.proofs.Math.Nat.{zero-div}
 use Rattle.std.proofs.lemmas.Bool.Decides.{eqb_tells}
 use Rattle.std.proofs.lemmas.List.{get_or_default, get_or_append_left, length-map, length-append}
 use Rattle.std.proofs.lemmas.List.FromFn.{get_or-range_with_len, length-range_with_len}
@@ -14,12 +13,8 @@ use Rattle.up_model.proofs.WellFormed.{there}
 use Rattle.up_model.specs.Inputs.{input_at, passes_at, places}
 use Rattle.up_model.specs.Ends.{is_source}
 use Rattle.up_model.specs.Meaning.{selected}
-use Rattle.up_model.specs.Outcomes.{settled_source_flow}
 use Rattle.up_model.specs.Plans.{ends_at_sink, heads, outlets_of, strand_of}
 use Rattle.up_model.specs.WellFormed.{IsWellFormed}
-use Rattle.up_model.specs.declared.form.SourceForm.TheVariants as source_forms
-use Rattle.up_model.specs.declared.kind.Kind.{Kind}
-use Rattle.up_model.specs.declared.kind.Kind.TheVariants as kinds
 use Rattle.up_model.specs.declared.pipe.Pipe.{Pipe}
 use Rattle.up_model.specs.declared.plain_packet.PlainPacket.{PlainPacket}
 use Rattle.up_outside.specs.States.{SourceState, SinkState}
@@ -39,6 +34,7 @@ use Rattle.up_strand.specs.declared.node.Part.{Part}
 use Rattle.up_strand.specs.declared.node.Part.TheVariants.{Head, Pipe as PipePart, Sink, Outlet, Ended}
 use Rattle.up_strand.specs.declared.node.Takers.{Takers}
 use Rattle.up_strand.specs.declared.shape.Shape.{Shape}
+use Rattle.up_strand.specs.declared.spelling.Spelling.{Spelling}
 use Rattle.up_strand.specs.declared.strand.Strand.{Strand}
 
 -- a place that is kept of all places is one of the graph
@@ -93,19 +89,6 @@ none_at p xs fails =
 pub input_taken : (o : Option ℕ) (k : ℕ) → takes_from o k ≡ true → o ≡ Some k
 input_taken None k takes = absurd (cc)
 input_taken (Some input) k takes = ap Some (elim (eqb_tells input k) [ inl same ↦ same.1 | inr other ↦ absurd (let wrong : true ≡ false = sym takes ∙ other.0 in cc) ])
-
-nothing_carried : (kind : Kind) → settled_source_flow kind [] ≡ []
-nothing_carried (kinds.Source path (source_forms.Raw block) limit) =
-    rw (zero-div block) refl
-nothing_carried (kinds.Sink path form) = refl
-nothing_carried kinds.Idem = refl
-nothing_carried kinds.Null = refl
-nothing_carried kinds.Dup = refl
-nothing_carried (kinds.Skip bytes) = refl
-nothing_carried (kinds.SetAttr attr value) = refl
-nothing_carried (kinds.DelAttr attr) = refl
-nothing_carried (kinds.MatchAttr attr low high) = refl
-nothing_carried (kinds.Delay by) = refl
 
 module _ {P K : Type 0} (plain : P → PlainPacket) (state : K → SinkState) (pipes : List Pipe) (head : ℕ) (told : ℕ → SinkState)
     (shape : Shape) (is : IsShapeOf pipes head shape) (nodes : List (Node P K)) (count : length nodes ≡ length shape.places.items)
@@ -218,13 +201,13 @@ module _ {P K : Type 0} (plain : P → PlainPacket) (state : K → SinkState) (p
 nothing_had : (pipes : List Pipe) (head : ℕ) (source : Option SourceState) (told : ℕ → SinkState) → [] ≡ head_flow (begun pipes head source told)
 nothing_had pipes head source told = by_pipe (slice_get pipes head)
   where
-    by_kind : (source : Bool) (kind : Kind) → [] ≡ cond source (settled_source_flow kind []) []
-    by_kind true kind = sym (nothing_carried kind)
-    by_kind false kind = refl
+    by_source : (source : Bool) → ◌≡◌ {A = List PlainPacket} [] (cond source [] [])
+    by_source true = refl
+    by_source false = refl
 
-    by_pipe : (found : Option Pipe) → [] ≡ option_map_or (λ (pipe : Pipe). cond (is_source pipe.kind) (settled_source_flow pipe.kind []) []) found []
+    by_pipe : (found : Option Pipe) → ◌≡◌ {A = List PlainPacket} [] (option_map_or (λ (pipe : Pipe). cond (is_source pipe.kind) [] []) found [])
     by_pipe None = refl
-    by_pipe (Some pipe) = by_kind (is_source pipe.kind) pipe.kind
+    by_pipe (Some pipe) = by_source (is_source pipe.kind)
 
 none_either : {P : Type 0} (here : Bool) → ◌≡◌ {A = List P} (cond here [] []) []
 none_either true = refl
@@ -237,7 +220,7 @@ none_waits waiting true empty = rw empty refl
 not_whole : {K : Type 0} (part : Part K) → has_ended part ≡ false → is_whole part ≡ false
 not_whole Head going = refl
 not_whole (PipePart m) going = refl
-not_whole (Sink sink failed) going = refl
+not_whole (Sink sink spelling failed) going = refl
 not_whole Outlet going = refl
 not_whole (Ended whole) going = absurd (cc)
 
@@ -337,13 +320,13 @@ module _ {P S K : Type 0} (plain : P → PlainPacket) (reads : S → SourceState
     made_writing : IsWriting strand writes (begun pipes head source told) (past_begun plain writes pipes head told shape is strand.tree.nodes.items made.count made.each)
     made_writing = record {
       starts = started;
-      now = λ i d sink failed within part. sym (started i d sink failed within part) ∙ (made.each i d within).start sink failed part;
+      now = λ i d sink spelling failed within part. sym (started i d sink spelling failed within part) ∙ (made.each i d within).start sink spelling failed part;
       failed = λ place. sym (failed_none plain writes pipes head told shape is _ made.count made.each (node_of strand place));
     }
       where
-        started : (i : ℕ) (d : Node P K) (sink : K) (failed : Bool) → i < length strand.tree.nodes.items → (get_or strand.tree.nodes.items i d).part ≡ Sink sink failed
+        started : (i : ℕ) (d : Node P K) (sink : K) (spelling : Spelling) (failed : Bool) → i < length strand.tree.nodes.items → (get_or strand.tree.nodes.items i d).part ≡ Sink sink spelling failed
             → (seat_in pipes shape told i).start ≡ told (place_of strand i)
-        started i d sink failed within part =
+        started i d sink spelling failed within part =
             let inner : nat_le shape.pipes i ≡ false = sym (made.each i d within).outlet ∙ ap is_outlet part in
             let below = inner_below plain writes pipes head told shape is _ made.count made.each i inner in
             rw (made.places, lt-ltb i shape.pipes below) refl

@@ -9,15 +9,16 @@ use Rattle.std.proofs.lemmas.Option.{same_Some}
 use Rattle.std.specs.List.{Contains}
 use Rattle.up_base.specs.Lists.{IsPrefix}
 use Rattle.up_model.proofs.Steps.{step_of}
-use Rattle.up_model.specs.Chain.{IsRawSink}
+use Rattle.up_model.specs.Ends.{written_by}
 use Rattle.up_model.specs.Inputs.{PipeTest, reached, reached_within}
 use Rattle.up_model.specs.Meaning.{Doing, wholly, so_far, is_fed_by, flow_by, input_by, taken_by, bytes_by, pipe_work}
-use Rattle.up_model.specs.Packet.{Flow, joined}
+use Rattle.up_model.specs.Packet.{Flow}
 use Rattle.up_model.specs.Plans.{head_of, is_head, outlets_of, strand_of}
 use Rattle.up_model.specs.Tallies.{IsAtMost, past_own_probe, stopped, uncaught}
+use Rattle.up_model.specs.declared.form.SinkForm.{SinkForm}
 use Rattle.up_model.specs.declared.catch_set.CatchSet.{CatchSet}
 use Rattle.up_model.specs.declared.outcome.Outcome.{Outcome}
-use Rattle.up_model.specs.declared.outcome.Outcome.TheVariants.{Whole, ReadFault, WriteFault, TooLong, Broken, NoMemory}
+use Rattle.up_model.specs.declared.outcome.Outcome.TheVariants.{Whole, ReadFault, WriteFault, BadFrame, TooLong, Broken, NoMemory}
 use Rattle.up_model.specs.declared.pipe.Pipe.{Pipe}
 use Rattle.up_model.specs.declared.plain_packet.PlainPacket.{PlainPacket}
 use Rattle.up_outside.specs.Counts.{CountsWhere}
@@ -29,6 +30,7 @@ use Rattle.up_strand.proofs.Told.{failed_is}
 use Rattle.up_strand.specs.History.{History, doing, head_flow, sums_at, to_head}
 use Rattle.up_strand.specs.Nodes.{has_failed, is_outlet, is_whole, node_work, takes_from}
 use Rattle.up_strand.specs.OfGraph.{AreFedAs, IsReached, IsReachedInPart}
+use Rattle.up_strand.specs.Spellings.{IsSinkOf, form_of}
 use Rattle.up_strand.specs.Stand.{AreDone, IsUnfinished}
 use Rattle.up_strand.specs.StrandCalls.{SinkEnds}
 use Rattle.up_strand.specs.Strands.{StandsFor, place_of}
@@ -36,6 +38,7 @@ use Rattle.up_strand.specs.Tree.{AllAt}
 use Rattle.up_strand.specs.Writing.{Receives}
 use Rattle.up_strand.specs.declared.node.Node.{Node}
 use Rattle.up_strand.specs.declared.node.Part.TheVariants.{Sink}
+use Rattle.up_strand.specs.declared.spelling.Spelling.{Spelling}
 use Rattle.up_strand.specs.declared.strand.Strand.{Strand}
 
 some_here : (passes : Bool) (place : ℕ) (further : Option ℕ) → (passes ≡ true) ⊎ IsSome further → IsSome (cond passes (Some place) further)
@@ -138,9 +141,9 @@ module _ {P S K : Type 0} (plain : P → PlainPacket) (reads : S → SourceState
   -- whatever became of memory: first parts of what the graph says
   pub record Begins (does : Doing) : Type 0 where
     pub reached : IsReachedInPart does h.pipes given writes place nodes stands.past
-    pub bytes : (i : ℕ) (d : Node P K) (pipe : Pipe) → i < length nodes → is_outlet (get_or nodes i d).part ≡ false
-        → MatchOption (stands.past.seats i).kind ⊥ IsRawSink → slice_get h.pipes (place i) ≡ Some pipe
-        → IsPrefix (joined (stands.past.fed i)) (bytes_by does h.pipes given (place i) pipe)
+    pub bytes : (form : SinkForm) (i : ℕ) (d : Node P K) (pipe : Pipe) → i < length nodes → is_outlet (get_or nodes i d).part ≡ false
+        → MatchOption (stands.past.seats i).kind ⊥ (IsSinkOf form) → slice_get h.pipes (place i) ≡ Some pipe
+        → IsPrefix (written_by form (stands.past.fed i)) (bytes_by does h.pipes given (place i) pipe)
 
   whole_begins : Begins wholly
   whole_begins = record {
@@ -171,6 +174,7 @@ module _ {P S K : Type 0} (plain : P → PlainPacket) (reads : S → SourceState
   begins_by (Some Whole) is = whole_begins
   begins_by (Some ReadFault) is = part_begins (λ same. cc)
   begins_by (Some WriteFault) is = part_begins (λ same. cc)
+  begins_by (Some (BadFrame offset)) is = part_begins (λ same. cc)
   begins_by (Some (TooLong limit)) is = part_begins (λ same. cc)
   begins_by (Some Broken) is = part_begins (λ same. cc)
   begins_by (Some NoMemory) is = part_begins (λ same. cc)
@@ -182,9 +186,9 @@ module _ {P S K : Type 0} (plain : P → PlainPacket) (reads : S → SourceState
   pub record Comes (does : Doing) : Type 0 where
     pub long : (i : ℕ) (d : Node P K) → i < length nodes → (get_or nodes i d).short ≡ false
     pub reached : IsReached does h.pipes given writes place nodes stands.past
-    pub bytes : (i : ℕ) (d : Node P K) (pipe : Pipe) → i < length nodes → is_outlet (get_or nodes i d).part ≡ false
-        → MatchOption (stands.past.seats i).kind ⊥ IsRawSink → slice_get h.pipes (place i) ≡ Some pipe
-        → joined (stands.past.fed i) ≡ bytes_by does h.pipes given (place i) pipe
+    pub bytes : (form : SinkForm) (i : ℕ) (d : Node P K) (pipe : Pipe) → i < length nodes → is_outlet (get_or nodes i d).part ≡ false
+        → MatchOption (stands.past.seats i).kind ⊥ (IsSinkOf form) → slice_get h.pipes (place i) ≡ Some pipe
+        → written_by form (stands.past.fed i) ≡ bytes_by does h.pipes given (place i) pipe
 
   unfinished_comes : h.short ≡ false → AllAt IsUnfinished nodes → Comes so_far
   unfinished_comes long unfinished = record {
@@ -220,6 +224,7 @@ module _ {P S K : Type 0} (plain : P → PlainPacket) (reads : S → SourceState
   comes_by (Some Whole) long is = done_comes long (stands.ended.nodes.done long is)
   comes_by (Some ReadFault) long is = broken_comes ReadFault long is (λ same. cc)
   comes_by (Some WriteFault) long is = broken_comes WriteFault long is (λ same. cc)
+  comes_by (Some (BadFrame offset)) long is = broken_comes (BadFrame offset) long is (λ same. cc)
   comes_by (Some (TooLong limit)) long is = broken_comes (TooLong limit) long is (λ same. cc)
   comes_by (Some Broken) long is = broken_comes Broken long is (λ same. cc)
   comes_by (Some NoMemory) long is = broken_comes NoMemory long is (λ same. cc)
@@ -249,27 +254,28 @@ module _ {P S K : Type 0} (plain : P → PlainPacket) (reads : S → SourceState
       subst (IsAtMost (uncaught caught (get_or nodes i d).out.tally)) is (uncaught_grows caught (get_or nodes i d).out.tally sums (begins.reached.sums i d node.0 node.1))
 
   -- what a sink was given
-  pub sink_ends : (i : ℕ) (d : Node P K) (sink : K) (failed : Bool) (pipe : Pipe) → i < length strand.tree.nodes.items
-      → (get_or strand.tree.nodes.items i d).part ≡ Sink sink failed → slice_get h.pipes (place_of strand i) ≡ Some pipe
+  pub sink_ends : (i : ℕ) (d : Node P K) (sink : K) (spelling : Spelling) (failed : Bool) (pipe : Pipe) → i < length strand.tree.nodes.items
+      → (get_or strand.tree.nodes.items i d).part ≡ Sink sink spelling failed → slice_get h.pipes (place_of strand i) ≡ Some pipe
       → SinkEnds h (place_of strand i) pipe (writes sink)
-  sink_ends i d sink failed pipe within is there =
+  sink_ends i d sink spelling failed pipe within is there =
       let inner : is_outlet (get_or nodes i d).part ≡ false = rw is refl in
       let part = rw is at (stands.stand.node i d within).part in
-      let took = joined (stands.past.fed i) in
+      let form = form_of spelling in
+      let took = written_by form (stands.past.fed i) in
       let works = not (get_or nodes i d).short && not failed in
-      let start = stands.writing.starts i d sink failed within is in
+      let start = stands.writing.starts i d sink spelling failed within is in
       let received : Receives (h.sinks (place i)) (writes sink) works took = subst (λ (s : SinkState). Receives s (writes sink) works took) start part.1 in
       let faults : CountsWhere failed (h.sinks (place i)).faults (writes sink).faults = subst (λ (s : SinkState). CountsWhere failed s.faults (writes sink).faults) start part.2.counts in
       let has : h.failed (place i) ≡ failed = failed_is plain reads writes strand h stands i d within ∙ ap has_failed is in
       record {
         put = received.put;
         appended = received.appended;
-        first = reaching.prefix_on received.put took _ received.prefix (begins.bytes i d pipe within inner part.0 there);
+        first = reaching.prefix_on received.put took _ received.prefix (begins.bytes form i d pipe within inner part.0 there);
         all = λ long right.
             received.whole (ap₂ (λ short fell. not short && not fell) ((comes long).long i d within) (sym has ∙ right))
-            ∙ (comes long).bytes i d pipe within inner part.0 there;
+            ∙ (comes long).bytes form i d pipe within inner part.0 there;
         faults = subst (λ (fell : Bool). CountsWhere fell (h.sinks (place i)).faults (writes sink).faults) (sym has) faults;
         once = subst (λ (s : SinkState). (writes sink).faults ≤ s.faults + 1) start part.2.once;
-        left = stands.writing.now i d sink failed within is;
+        left = stands.writing.now i d sink spelling failed within is;
         same = received.same;
       }

@@ -4,6 +4,8 @@ use Rattle.std.specs.Prelude.{◌⊎◌, option_and_then}
 use Rattle.std.specs.Option.{option_map_or}
 use Rattle.std.proofs.lemmas.Option.{slice_get-get_or, slice_get_cases, slice_get_past}
 use Rattle.up_model.specs.Packet.{Flow}
+use Rattle.up_model.specs.declared.form.SourceForm.{SourceForm}
+use Rattle.up_model.specs.declared.form.SourceForm.TheVariants.{Raw, Framed}
 use Rattle.up_model.specs.declared.outcome.Outcome.{Outcome}
 use Rattle.up_model.specs.declared.outcome.Outcome.TheVariants as outcomes
 use Rattle.up_model.specs.declared.plain_packet.PlainPacket.{PlainPacket}
@@ -13,9 +15,9 @@ use Rattle.up_strand.specs.History.{History}
 use Rattle.up_strand.specs.Nodes.{has_ended, has_failed, is_outlet, is_pipe, is_whole, takes_from}
 use Rattle.up_strand.specs.OfGraph.{AreNodesOf, IsNodeOf}
 use Rattle.up_strand.specs.Stand.{AreAsPlaced, Past, Stand}
-use Rattle.up_strand.specs.Strands.{EndsRightly, IntakeStands, IsAsEnded, IsBuilt, IsSent, StandsFor, node_of, place_of}
+use Rattle.up_strand.specs.Strands.{EndsRightly, IsReading, IsTold, IntakeStands, IsAsEnded, IsBuilt, IsSent, StandsFor, node_of, place_of}
 use Rattle.up_strand.specs.declared.intake.Intake.{Intake}
-use Rattle.up_strand.specs.declared.intake.Intake.TheVariants.{FromSource, FromLane}
+use Rattle.up_strand.specs.declared.intake.Intake.TheVariants.{FromSource, FromFrames, FromLane}
 use Rattle.up_strand.specs.declared.node.Node.{Node}
 use Rattle.up_strand.specs.declared.strand.Strand.{Strand}
 
@@ -40,17 +42,23 @@ abbrev pub taken_so : History → (ℕ → Flow) → (ℕ → Bool) → History
 taken_so h sent closed = record h { sent = sent; closed = closed }
 
 module _ (h : History) (sent : ℕ → Flow) (closed : ℕ → Bool) where
-  ends_so : (limit : ℕ) (rest : Option (List ℕ)) (ended : Option Outcome) → EndsRightly limit rest h ended → EndsRightly limit rest (taken_so h sent closed) ended
-  ends_so limit rest None ends = ends
-  ends_so limit rest (Some outcomes.Whole) ends = ends
-  ends_so limit rest (Some outcomes.ReadFault) ends = ends
-  ends_so limit rest (Some outcomes.WriteFault) ends = ends
-  ends_so limit rest (Some (outcomes.TooLong most)) ends = ends
-  ends_so limit rest (Some outcomes.Broken) ends = ends
-  ends_so limit rest (Some outcomes.NoMemory) ends = ends
+  told_so : (form : SourceForm) (limit : ℕ) (rest : Option (List ℕ)) (outcome : Outcome) → IsTold form limit rest h outcome
+      → IsTold form limit rest (taken_so h sent closed) outcome
+  told_so form limit rest outcome told = record { long = told.long; few = told.few; is = told.is; settled = told.settled }
 
-  intake_so : {S : Type 0} (reads : S → SourceState) (intake : Intake S) → IntakeStands reads intake h → IntakeStands reads intake (taken_so h sent closed)
-  intake_so reads (FromSource source block limit left) stood = record {
+  ends_so : (form : SourceForm) (limit : ℕ) (rest : Option (List ℕ)) (ended : Option Outcome) → EndsRightly form limit rest h ended
+      → EndsRightly form limit rest (taken_so h sent closed) ended
+  ends_so form limit rest None ends = ends
+  ends_so form limit rest (Some outcomes.Whole) ends = ends
+  ends_so form limit rest (Some outcomes.ReadFault) ends = ends
+  ends_so form limit rest (Some outcomes.WriteFault) ends = ends
+  ends_so form limit rest (Some (outcomes.BadFrame offset)) ends = told_so form limit rest (outcomes.BadFrame offset) ends
+  ends_so form limit rest (Some (outcomes.TooLong most)) ends = told_so form limit rest (outcomes.TooLong most) ends
+  ends_so form limit rest (Some outcomes.Broken) ends = ends
+  ends_so form limit rest (Some outcomes.NoMemory) ends = ends
+
+  reading_so : (now : SourceState) (form : SourceForm) (limit : ℕ) → IsReading now form limit h → IsReading now form limit (taken_so h sent closed)
+  reading_so now form limit stood = record {
     pipe = stood.pipe;
     there = stood.there;
     path = stood.path;
@@ -60,12 +68,22 @@ module _ (h : History) (sent : ℕ → Flow) (closed : ℕ → Bool) where
     told_now = stood.told_now;
     took = stood.took;
     faults = stood.faults;
-    ends = ends_so limit (reads source).left h.ended stood.ends;
+    ends = ends_so form limit now.left h.ended stood.ends;
+    in_limit = stood.in_limit;
+    alone = stood.alone;
+  }
+
+  intake_so : {S : Type 0} (reads : S → SourceState) (intake : Intake S) → IntakeStands reads intake h → IntakeStands reads intake (taken_so h sent closed)
+  intake_so reads (FromSource source block limit left) stood = record {
+    reading = reading_so (reads source) (Raw block) limit stood.reading;
+    put = stood.put;
     rest = stood.rest;
     even = stood.even;
     in_block = stood.in_block;
-    in_limit = stood.in_limit;
-    alone = stood.alone;
+  }
+  intake_so reads (FromFrames frames) stood = record {
+    reading = reading_so (reads frames.source) Framed frames.limit stood.reading;
+    stands = stood.stands;
   }
   intake_so reads FromLane stood = record { fed = stood.fed; none = stood.none; none_now = stood.none_now; alone = stood.alone; ends = stood.ends }
 
@@ -85,6 +103,8 @@ module _ {P K : Type 0} (olds news : List (Node P K)) (alike : AreSameButOut old
     takers = ap (λ (n : Node P K). n.takers) (alike.same i d);
     outlet = ap is_outlet (part_same i d);
     stopped = λ failed. part_same i d;
+    fallen = λ short. short_same i d ∙ short;
+    still = λ short sink. part_same i d;
   }
 
   failed_same : (found : Option ℕ) → option_map_or (λ (n : Node P K). has_failed n.part) (option_and_then (slice_get olds) found) false
@@ -197,8 +217,8 @@ module _ {P S K : Type 0} (plain : P → PlainPacket) (reads : S → SourceState
     intake = intake_so h sent closed reads old.intake stands.intake;
     sent = is_sent;
     writing = record {
-      starts = λ i d sink failed within is. stands.writing.starts i d sink failed (inside i within) (sym (part_same olds news alike i d) ∙ is);
-      now = λ i d sink failed within is. stands.writing.now i d sink failed (inside i within) (sym (part_same olds news alike i d) ∙ is);
+      starts = λ i d sink spelling failed within is. stands.writing.starts i d sink spelling failed (inside i within) (sym (part_same olds news alike i d) ∙ is);
+      now = λ i d sink spelling failed within is. stands.writing.now i d sink spelling failed (inside i within) (sym (part_same olds news alike i d) ∙ is);
       failed = λ place. stands.writing.failed place ∙ failed_same olds news alike (node_of old place);
     };
   }

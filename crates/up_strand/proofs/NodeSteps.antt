@@ -5,14 +5,14 @@ use Rattle.std.proofs.lemmas.List.{map-append}
 use Rattle.std.proofs.lemmas.List.Elements.{All-append, All-push}
 use Rattle.up_base.specs.Lists.{IsPrefix}
 use Rattle.up_model.proofs.EveryKind.{lawful}
-use Rattle.up_model.proofs.Joined.{joined-append}
-use Rattle.up_model.specs.Chain.{IsRawSink}
-use Rattle.up_model.specs.Ends.{is_source}
+use Rattle.up_model.proofs.Joined.{frames_of-append, joined-append}
+use Rattle.up_model.specs.Ends.{is_source, written_by}
 use Rattle.up_model.specs.Kinds.{IsWithinBounds, output_of, settled_output, work_of, settled_work}
-use Rattle.up_model.specs.Packet.{Flow, IsLegal, joined}
+use Rattle.up_model.specs.Packet.{Flow, IsLegal}
 use Rattle.up_model.specs.Tallies.{IsAtMost, nothing, plus, added, stopped, of_source, of_taken}
 use Rattle.up_model.specs.Work.{Work}
-use Rattle.up_model.specs.declared.form.SinkForm.TheVariants.{Raw}
+use Rattle.up_model.specs.declared.form.SinkForm.{SinkForm}
+use Rattle.up_model.specs.declared.form.SinkForm.TheVariants as sink_forms
 use Rattle.up_model.specs.declared.kind.Kind.{Kind}
 use Rattle.up_model.specs.declared.kind.Kind.TheVariants as kinds
 use Rattle.up_model.specs.declared.plain_packet.PlainPacket.{PlainPacket}
@@ -25,12 +25,14 @@ use Rattle.up_strand.proofs.AtMost.{at_most_itself, at_most_on, at_most_same, st
 use Rattle.up_strand.proofs.Writes.{receives_front}
 use Rattle.up_strand.specs.AnyModule.{any_kind, AnyStands, has_module}
 use Rattle.up_strand.specs.Nodes.{Seat, Holds, PartStands, NodeStands, Took, node_work, is_whole}
+use Rattle.up_strand.specs.Spellings.{IsSinkOf, form_of}
 use Rattle.up_strand.specs.Writing.{Receives}
 use Rattle.up_strand.specs.declared.any_module.AnyModule.{AnyModule}
 use Rattle.up_strand.specs.declared.any_module.AnyModule.TheVariants as modules
 use Rattle.up_strand.specs.declared.node.Node.{Node}
 use Rattle.up_strand.specs.declared.node.Part.{Part}
 use Rattle.up_strand.specs.declared.node.Part.TheVariants.{Head, Pipe, Sink, Outlet, Ended}
+use Rattle.up_strand.specs.declared.spelling.Spelling.{Spelling}
 
 pub any_has_module : (m : AnyModule) → has_module (any_kind m) ≡ true
 any_has_module (modules.Idem m) = refl
@@ -72,12 +74,12 @@ head_work true (Some (kinds.Source path form limit)) fed is = refl
 head_work whole (Some kind) fed is = absurd (cc)
 
 -- a sink puts nothing out
-pub sink_work : (whole : Bool) (kind : Option Kind) (fed : Flow) → MatchOption kind ⊥ IsRawSink
+pub sink_work : (whole : Bool) (kind : Option Kind) (form : SinkForm) (fed : Flow) → MatchOption kind ⊥ (IsSinkOf form)
     → node_work whole kind fed ≡ record { flow = []; tally = of_taken fed }
-sink_work whole None fed is = absurd is
-sink_work false (Some (kinds.Sink path Raw)) fed is = refl
-sink_work true (Some (kinds.Sink path Raw)) fed is = refl
-sink_work whole (Some kind) fed is = absurd is
+sink_work whole None form fed is = absurd is
+sink_work false (Some (kinds.Sink path own)) form fed is = refl
+sink_work true (Some (kinds.Sink path own)) form fed is = refl
+sink_work whole (Some kind) form fed is = absurd is
 
 -- an outlet puts out what it takes
 pub outlet_work : (whole : Bool) (kind : Option Kind) (fed : Flow) → kind ≡ None → node_work whole kind fed ≡ record { flow = fed; tally = nothing }
@@ -220,9 +222,10 @@ holds_nothing plain whole kind out within packets tally =
       most = at_most_same _ _ sums;
     }
 
--- the bytes of one packet more
-joined-push : (fed : Flow) (packet : PlainPacket) → joined (fed ++ packet ∷ []) ≡ joined fed ++ packet.bytes
-joined-push fed packet = joined-append fed (packet ∷ []) ∙ ap (λ l. joined fed ++ l) (append-nil packet.bytes)
+-- what a sink writes of more packets goes on behind what it writes of the first
+written_by-append : (form : SinkForm) (front more : Flow) → written_by form (front ++ more) ≡ written_by form front ++ written_by form more
+written_by-append sink_forms.Raw front more = joined-append front more
+written_by-append sink_forms.Framed front more = frames_of-append front more
 
 module _ {P K : Type 0} (plain : P → PlainPacket) (state : K → SinkState) where
   -- a part at which memory ran out, whatever more is given to it
@@ -230,8 +233,12 @@ module _ {P K : Type 0} (plain : P → PlainPacket) (state : K → SinkState) wh
       → PartStands plain state seat true part (fed ++ more)
   part_goes_on seat short Head fed more is = is
   part_goes_on seat short (Pipe m) fed more is = (is.0, λ long. absurd (cc))
-  part_goes_on seat short (Sink sink failed) fed more is =
-      (is.0, rw (joined-append fed more) (receives_front _ _ _ (joined fed) (joined more) is.1), is.2)
+  part_goes_on seat short (Sink sink spelling failed) fed more is = (
+    is.0,
+    rw (written_by-append (form_of spelling) fed more)
+        (receives_front _ _ _ (written_by (form_of spelling) fed) (written_by (form_of spelling) more) is.1),
+    is.2,
+  )
   part_goes_on seat short Outlet fed more is = is
   part_goes_on seat short (Ended whole) fed more is = is
 
@@ -320,23 +327,29 @@ module _ {P K : Type 0} (plain : P → PlainPacket) (state : K → SinkState) wh
         }
 
     -- a sink that took the packet, or at which memory ran out
-    pub sink_took : (sink sink' : K) (failed failed' : Bool) → old.part ≡ Sink sink failed → new.part ≡ Sink sink' failed'
+    pub sink_took : (sink sink' : K) (spelling spelling' : Spelling) (failed failed' : Bool)
+        → old.part ≡ Sink sink spelling failed → new.part ≡ Sink sink' spelling' failed' → form_of spelling' ≡ form_of spelling
         → ((start : SinkState) (before : List ℕ) → Receives start (state sink) (not failed) before
-        → Receives start (state sink') (not new.short && not failed') (before ++ packet.bytes))
+        → Receives start (state sink') (not new.short && not failed') (before ++ written_by (form_of spelling) (packet ∷ [])))
         → ((before : ℕ) → CountsOnce failed before (state sink).faults → CountsOnce failed' before (state sink').faults)
         → new.out.packets ≡ old.out.packets → new.out.tally ≡ added old.out.tally (record { taken = 1; put = 0; dropped = 0; cut = 0; gained = 0; lost = 0 })
         → Took plain state old new (packet ∷ [])
-    sink_took sink sink' failed failed' is is' receives faults packets tally seat fed gone stood =
+    sink_took sink sink' spelling spelling' failed failed' is is' same receives faults packets tally seat fed gone stood =
         let part = rw (is, long) at stood.part in
-        let holds = rw (is, long, sink_work false seat.kind fed part.0) at stood.holds in
+        let form = form_of spelling in
+        let holds = rw (is, long, sink_work false seat.kind form fed part.0) at stood.holds in
         let sums : new.out.tally ≡ stopped (of_taken (fed ++ packet ∷ [])) =
         tally ∙ ap (λ t. added t one) (holds.tally refl) ∙ added-stopped (of_taken fed) one
         ∙ ap stopped (λ i. record { taken = sym (length-append fed (packet ∷ [])) i; put = 0; dropped = 0; cut = 0; gained = 0; lost = 0 }) in
         record {
           legal = legal_more fed stood.legal;
           within = stood.within;
-          part = rw is' (part.0, rw (joined-push fed packet) (receives seat.start (joined fed) part.1), faults seat.start.faults part.2);
-          holds = rw (is', sink_work false seat.kind (fed ++ packet ∷ []) part.0) (record {
+          part = rw (is', same) (
+            part.0,
+            rw (written_by-append form fed (packet ∷ [])) (receives seat.start (written_by form fed) part.1),
+            faults seat.start.faults part.2,
+          );
+          holds = rw (is', sink_work false seat.kind form (fed ++ packet ∷ []) part.0) (record {
             lacking = holds.lacking;
             flow = holds.flow ∙ ap (λ ps. gone ++ map plain ps ++ holds.lacking) (sym packets);
             all = λ _. holds.all refl;

@@ -180,7 +180,7 @@ module _ {P K : Type 0} (plain : P → PlainPacket) (state : K → SinkState) wh
         elim (eqb_tells i place) [
           | inl is ↦
               let here : IsAsPlaced (get_or olds place d) (get_or after place d) =
-              rw (node_here d, get_or_default olds place d e within) (record { input = refl; takers = refl; outlet = refl; stopped = λ failed. refl }) in
+              rw (node_here d, get_or_default olds place d e within) (record { input = refl; takers = refl; outlet = refl; stopped = λ failed. refl; fallen = λ short. short; still = λ short sink. refl }) in
               subst (λ (n : ℕ). IsAsPlaced (get_or olds n d) (get_or after n d)) (sym is.1) here
           | inr other ↦ (node_beside i d inside other.1).placed
         ]
@@ -256,7 +256,7 @@ module _ {P K : Type 0} (plain : P → PlainPacket) (state : K → SinkState) wh
     placed_passed well olds news passed i d within =
         elim (eqb_tells i place) [
           | inl is ↦
-              let here : IsAsPlaced (get_or olds place d) (get_or news place d) = rw (passed.here d) (record { input = refl; takers = refl; outlet = refl; stopped = λ failed. refl }) in
+              let here : IsAsPlaced (get_or olds place d) (get_or news place d) = rw (passed.here d) (record { input = refl; takers = refl; outlet = refl; stopped = λ failed. refl; fallen = λ short. short; still = λ short sink. refl }) in
               subst (λ (n : ℕ). IsAsPlaced (get_or olds n d) (get_or news n d)) (sym is.1) here
           | inr other ↦ (passed.others i d within other.1).placed
         ]

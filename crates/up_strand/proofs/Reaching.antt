@@ -8,13 +8,13 @@ use Rattle.up_base.specs.Lists.{IsPrefix}
 use Rattle.up_model.proofs.EveryKind.{lawful}
 use Rattle.up_model.proofs.GraphFlows.{written_grows, so_far-wholly}
 use Rattle.up_model.proofs.Ways.{flow_by-unrolled}
-use Rattle.up_model.specs.Chain.{IsRawSink}
+use Rattle.up_model.specs.Ends.{written_by}
 use Rattle.up_model.specs.Kinds.{IsWithinBounds, output_of, settled_output, settled_work, work_of, module_kind, share_of, written_of}
 use Rattle.up_model.specs.Meaning.{Doing, Feeding, wholly, so_far, selected, done_by, shared, taken_from, taken_by, work_at, flow_by, pipe_work, input_by, bytes_by}
-use Rattle.up_model.specs.Packet.{Flow, joined}
+use Rattle.up_model.specs.Packet.{Flow}
 use Rattle.up_model.specs.Tallies.{IsAtMost, of_source, stopped}
 use Rattle.up_model.specs.Work.{Work}
-use Rattle.up_model.specs.declared.form.SinkForm.TheVariants.{Raw}
+use Rattle.up_model.specs.declared.form.SinkForm.{SinkForm}
 use Rattle.up_model.specs.declared.kind.Kind.{Kind}
 use Rattle.up_model.specs.declared.kind.Kind.TheVariants as kinds
 use Rattle.up_model.specs.declared.pipe.Pipe.{Pipe}
@@ -25,6 +25,7 @@ use Rattle.up_strand.proofs.AtMost.{at_most_on, stopped_grows}
 use Rattle.up_strand.proofs.NodeSteps.{head_work, sink_work, source_sums_grow}
 use Rattle.up_strand.specs.Nodes.{Seat, PartStands, node_work, is_outlet, is_whole, has_ended, is_pipe, takes_from}
 use Rattle.up_strand.specs.OfGraph.{IsInputOf, AreNodesOf, AreFed, AreFedInPart, IsReached, IsReachedInPart}
+use Rattle.up_strand.specs.Spellings.{IsSinkOf, form_of}
 use Rattle.up_strand.specs.Stand.{Past, Stand, AreSettled}
 use Rattle.up_strand.specs.Tree.{IsTree}
 use Rattle.up_strand.specs.declared.node.Node.{Node}
@@ -144,23 +145,24 @@ module _ {P K : Type 0} (plain : P → PlainPacket) (state : K → SinkState) wh
       → PartStands plain state seat short part fed → node_work (is_whole part) seat.kind fed ≡ node_work true seat.kind fed
   whole_as_done seat short Head fed inner ended whole part = head_work false seat.kind fed part ∙ sym (head_work true seat.kind fed part)
   whole_as_done seat short (PipePart m) fed inner ended whole part = absurd (cc)
-  whole_as_done seat short (Sink sink failed) fed inner ended whole part = sink_work false seat.kind fed part.0 ∙ sym (sink_work true seat.kind fed part.0)
+  whole_as_done seat short (Sink sink spelling failed) fed inner ended whole part = sink_work false seat.kind (form_of spelling) fed part.0 ∙ sym (sink_work true seat.kind (form_of spelling) fed part.0)
   whole_as_done seat short Outlet fed inner ended whole part = absurd (cc)
   whole_as_done seat short (Ended w) fed inner ended whole part = rw (sym whole) refl
 
   pub whole_as_sound : (part : Part K) → has_ended part ≡ false → is_whole part ≡ false
   whole_as_sound Head going = refl
   whole_as_sound (PipePart m) going = refl
-  whole_as_sound (Sink sink failed) going = refl
+  whole_as_sound (Sink sink spelling failed) going = refl
   whole_as_sound Outlet going = refl
   whole_as_sound (Ended w) going = absurd (cc)
 
-  raw_bytes : (kind : Option Kind) (own : Kind) (fed : Flow) → kind ≡ Some own → MatchOption kind ⊥ IsRawSink → joined fed ≡ written_of own fed
-  raw_bytes kind own fed is raw = by_kind own (rw is at raw)
+  own_bytes : (form : SinkForm) (kind : Option Kind) (own : Kind) (fed : Flow) → kind ≡ Some own → MatchOption kind ⊥ (IsSinkOf form)
+      → written_by form fed ≡ written_of own fed
+  own_bytes form kind own fed is sink = by_kind own (rw is at sink)
     where
-      by_kind : (k : Kind) → IsRawSink k → joined fed ≡ written_of k fed
-      by_kind (kinds.Sink path Raw) raw = refl
-      by_kind k raw = absurd raw
+      by_kind : (k : Kind) → IsSinkOf form k → written_by form fed ≡ written_of k fed
+      by_kind (kinds.Sink path its) same = ap (λ f. written_by f fed) (sym same)
+      by_kind k wrong = absurd wrong
 
   module _ (whole : Bool) (pipes : List Pipe) (places : ℕ → ℕ) (given : Feeding) (nodes : List (Node P K)) (past : Past) (rank : ℕ → ℕ) (tree : IsTree rank nodes)
       (stand : Stand plain state nodes past) (of : AreNodesOf pipes places nodes past) (settled : AreSettled nodes)
@@ -222,15 +224,15 @@ module _ {P K : Type 0} (plain : P → PlainPacket) (state : K → SinkState) wh
         ∙ sym (flow_by-unrolled pipes (doing whole) given (places i) (are_fed.reaches i d within inner))
 
     -- the bytes that a sink took are those that it is to write
-    pub bytes_are : (i : ℕ) (d : Node P K) (pipe : Pipe) → i < length nodes → is_outlet (get_or nodes i d).part ≡ false
-        → MatchOption (past.seats i).kind ⊥ IsRawSink → slice_get pipes (places i) ≡ Some pipe
-        → joined (past.fed i) ≡ bytes_by (doing whole) pipes given (places i) pipe
-    bytes_are i d pipe within inner raw there =
+    pub bytes_are : (form : SinkForm) (i : ℕ) (d : Node P K) (pipe : Pipe) → i < length nodes → is_outlet (get_or nodes i d).part ≡ false
+        → MatchOption (past.seats i).kind ⊥ (IsSinkOf form) → slice_get pipes (places i) ≡ Some pipe
+        → written_by form (past.fed i) ≡ bytes_by (doing whole) pipes given (places i) pipe
+    bytes_are form i d pipe within inner sink there =
         let node = of.each i d within inner in
         let same_pipe : node.pipe ≡ pipe = same_Some node.pipe pipe (sym node.there ∙ there) in
         let kind : (past.seats i).kind ≡ Some node.pipe.kind = node.kind ∙ ap Some (same_kind (selected pipes (places i)) node.pipe.kind) in
         let fed = fed_by i d (get_or nodes i d).input node.pipe within refl inner node.input_of node.there (λ k inside less other. gone_is (rank k + 1) k d (omega arith) inside other) in
-        raw_bytes (past.seats i).kind node.pipe.kind (past.fed i) kind raw ∙ ap (written_of node.pipe.kind) fed
+        own_bytes form (past.seats i).kind node.pipe.kind (past.fed i) kind sink ∙ ap (written_of node.pipe.kind) fed
         ∙ ap (bytes_by (doing whole) pipes given (places i)) same_pipe
 
     pub reached : IsReached (doing whole) pipes given state places nodes past
@@ -243,10 +245,10 @@ module _ {P K : Type 0} (plain : P → PlainPacket) (state : K → SinkState) wh
           sums = λ i d within inner.
               (stand.node i d within).holds.tally (long i d within)
               ∙ ap (λ (w : Work). stopped w.tally) (work_is i d within inner (λ k inside less other. gone d k inside other));
-          sinks = λ i d sink pipe within is there.
+          sinks = λ i d sink spelling pipe within is there.
               let inner : is_outlet (get_or nodes i d).part ≡ false = rw is refl in
               let part = rw (is, long i d within) at (stand.node i d within).part in
-              let bytes : part.1.put ≡ bytes_by (doing whole) pipes given (places i) pipe = part.1.whole refl ∙ bytes_are i d pipe within inner part.0 there in
+              let bytes : part.1.put ≡ bytes_by (doing whole) pipes given (places i) pipe = part.1.whole refl ∙ bytes_are (form_of spelling) i d pipe within inner part.0 there in
               subst (Appends (past.seats i).start.written (state sink).written) bytes part.1.appended;
         }
 
@@ -301,17 +303,17 @@ module _ {P K : Type 0} (plain : P → PlainPacket) (state : K → SinkState) wh
         prefix_on _ _ _ left_of_kind (subst (IsPrefix (node_work (is_whole (get_or nodes i d).part) (Some node.pipe.kind) (past.fed i)).flow) is_flow comes_first)
 
     -- the bytes that a sink took come first of those that it is to write
-    pub bytes_first : (i : ℕ) (d : Node P K) (pipe : Pipe) → i < length nodes → is_outlet (get_or nodes i d).part ≡ false
-        → MatchOption (past.seats i).kind ⊥ IsRawSink → slice_get pipes (places i) ≡ Some pipe
-        → IsPrefix (joined (past.fed i)) (bytes_by does pipes given (places i) pipe)
-    bytes_first i d pipe within inner raw there =
+    pub bytes_first : (form : SinkForm) (i : ℕ) (d : Node P K) (pipe : Pipe) → i < length nodes → is_outlet (get_or nodes i d).part ≡ false
+        → MatchOption (past.seats i).kind ⊥ (IsSinkOf form) → slice_get pipes (places i) ≡ Some pipe
+        → IsPrefix (written_by form (past.fed i)) (bytes_by does pipes given (places i) pipe)
+    bytes_first form i d pipe within inner sink there =
         let node = of.each i d within inner in
         let bytes = bytes_by does pipes given (places i) node.pipe in
         let same_pipe : node.pipe ≡ pipe = same_Some node.pipe pipe (sym node.there ∙ there) in
         let kind : (past.seats i).kind ≡ Some node.pipe.kind = node.kind ∙ ap Some (same_kind (selected pipes (places i)) node.pipe.kind) in
         let fed = fed_first i d (get_or nodes i d).input node.pipe within refl inner node.input_of node.there (λ k inside less other. gone_first (rank k + 1) k d (omega arith) inside other) in
-        subst (λ (p : Pipe). IsPrefix (joined (past.fed i)) (bytes_by does pipes given (places i) p)) same_pipe
-        (subst (λ (l : List ℕ). IsPrefix l bytes) (sym (raw_bytes (past.seats i).kind node.pipe.kind (past.fed i) kind raw))
+        subst (λ (p : Pipe). IsPrefix (written_by form (past.fed i)) (bytes_by does pipes given (places i) p)) same_pipe
+        (subst (λ (l : List ℕ). IsPrefix l bytes) (sym (own_bytes form (past.seats i).kind node.pipe.kind (past.fed i) kind sink))
         (written_grows node.pipe.kind _ _ (rw kind at (stand.node i d within).within) fed))
 
     -- what a node counted of a first part of what its pipe takes is at most what the pipe counts
@@ -344,8 +346,8 @@ module _ {P K : Type 0} (plain : P → PlainPacket) (state : K → SinkState) wh
           outlets = λ i k d within takes.
               subst (λ (f : Flow). IsPrefix f (flows_of (places k))) (sym (stand.edge i d k within takes)) (gone d k (tree.inputs i d k within takes).0 (of.inner i k d within takes));
           sums = counted_first counts;
-          sinks = λ i d sink failed pipe within is there.
+          sinks = λ i d sink spelling failed pipe within is there.
               let inner : is_outlet (get_or nodes i d).part ≡ false = rw is refl in
               let part = rw is at (stand.node i d within).part in
-              (part.1.put, part.1.appended, prefix_on part.1.put (joined (past.fed i)) _ part.1.prefix (bytes_first i d pipe within inner part.0 there));
+              (part.1.put, part.1.appended, prefix_on part.1.put (written_by (form_of spelling) (past.fed i)) _ part.1.prefix (bytes_first (form_of spelling) i d pipe within inner part.0 there));
         }

@@ -3,10 +3,11 @@ use Rattle.std.proofs.Common.{◌≡◌, ◌≢◌, ℕ, ◌+◌, ◌-◌, ◌*�
 use Rattle.std.specs.Option.{option_map_or}
 use Rattle.std.specs.Prelude.{MatchOption}
 use Rattle.up_base.specs.Lists.{IsPrefix}
+use Rattle.up_model.proofs.Counting.{count_with_bytes-few}
 use Rattle.up_model.proofs.Packets.{plain_is_legal}
 use Rattle.up_model.specs.Cutting.{blocks, full_blocks}
 use Rattle.up_model.specs.Packet.{Flow, IsLegal, plain as bare}
-use Rattle.up_model.specs.declared.form.SourceForm.TheVariants.{Raw}
+use Rattle.up_model.specs.declared.form.SourceForm.TheVariants.{Raw, Framed}
 use Rattle.up_model.specs.declared.kind.Kind.TheVariants as kinds
 use Rattle.up_model.specs.declared.outcome.Outcome.{Outcome}
 use Rattle.up_model.specs.declared.outcome.Outcome.TheVariants as outcomes
@@ -15,14 +16,14 @@ use Rattle.up_model.specs.declared.plain_packet.PlainPacket.{PlainPacket}
 use Rattle.up_outside.specs.Counts.{CountsOnce}
 use Rattle.up_outside.specs.States.{SourceState, SinkState}
 use Rattle.up_shape.specs.Stores.{StoreState, Stays}
-use Rattle.up_strand.proofs.ReadSteps.{block_more, end_more, fault_more, flow_now, go_on, last_more, long_more, reading_on, same_first}
+use Rattle.up_strand.proofs.ReadSteps.{block_more, cutting_on, end_more, fault_more, flow_now, go_on, last_more, long_more, raw_told, raw_unshown, raw_whole, same_first}
 use Rattle.up_strand.proofs.StrandSteps.{goes_on, looked_as, sinks_after, stepped_on, still_stopped, tree_going}
 use Rattle.up_strand.specs.Gifts.{NodesFit}
 use Rattle.up_strand.specs.History.{History, head_flow, carried_by}
 use Rattle.up_strand.specs.Reads.{ReadsPacket, is_read_fault as is_fault_of}
 use Rattle.up_strand.specs.Steps.{IsGoing, OnceLooked, TreeIs, TreeTook, ended_where}
 use Rattle.up_strand.specs.StrandCalls.{SteppedRead, is_done, is_output}
-use Rattle.up_strand.specs.Strands.{EndsRightly, IsReading, StandsFor, StandsForSome, StrandFits, first_ready, has_failed_at, ended_at_fault, want_of}
+use Rattle.up_strand.specs.Strands.{EndsRightly, IsCutting, StandsFor, StandsForSome, StrandFits, first_ready, has_failed_at, ended_at_fault, want_of}
 use Rattle.up_strand.specs.declared.intake.Intake.TheVariants.{FromSource}
 use Rattle.up_strand.specs.declared.source_packet.Next.{Next}
 use Rattle.up_strand.specs.declared.source_packet.Next.TheVariants as nexts
@@ -43,14 +44,15 @@ ended_no_fault true = refl
 ended_no_fault false = refl
 
 -- how much was read, where it was a block
-ends_where : (limit : ℕ) (rest : Option (List ℕ)) (h : History) (short : Bool) → h.short ≡ short → length h.read ≤ limit → EndsRightly limit rest h (ended_where short)
-ends_where limit rest h true is within = (is, omega arith)
-ends_where limit rest h false is within = (is, within)
+ends_where : (block limit : ℕ) (rest : Option (List ℕ)) (h : History) (short : Bool) → h.short ≡ short → length h.read ≤ limit
+    → EndsRightly (Raw block) limit rest h (ended_where short)
+ends_where block limit rest h true is within = (is, omega arith)
+ends_where block limit rest h false is within = (is, omega arith)
 
-carried_where : (short : Bool) (path : List ℕ) (block limit : ℕ) (bytes : List ℕ)
-    → carried_by (ended_where short) (kinds.Source path (Raw block) limit) bytes ≡ full_blocks block bytes
-carried_where true path block limit bytes = refl
-carried_where false path block limit bytes = refl
+carried_where : (short : Bool) (path : List ℕ) (block limit : ℕ) (put : Flow) (bytes : List ℕ) → full_blocks block bytes ≡ put
+    → carried_by (ended_where short) put (kinds.Source path (Raw block) limit) bytes ≡ put
+carried_where true path block limit put bytes is = is
+carried_where false path block limit put bytes is = refl
 
 module _ {P S K : Type 0} (plain : P → PlainPacket) (reads : S → SourceState) (writes : K → SinkState)
     (old : Strand P S K) (wants : want_of old ≡ Read) where
@@ -72,14 +74,14 @@ module _ {P S K : Type 0} (plain : P → PlainPacket) (reads : S → SourceState
   module _ (source : S) (block limit left : ℕ) (from : old.intake ≡ FromSource source block limit left) where
     -- what it read before
     module _ (h : History) (stood : StandsFor plain reads writes old h) where
-      pub was_reading : IsReading (reads source) block limit left h
+      pub was_reading : IsCutting (reads source) block limit left h
       was_reading = rw from at stood.intake
 
       pub was_going : h.ended ≡ None
       was_going = sym stood.ended.ended ∙ read_goes_on
 
       pub was_long : h.short ≡ false
-      was_long = let ends = rw was_going at was_reading.ends in ends.0
+      was_long = let ends = rw was_going at was_reading.reading.ends in ends.0
 
       pub tree_long : old.tree.short ≡ false
       tree_long = stood.ended.short ∙ was_long
@@ -107,13 +109,14 @@ module _ {P S K : Type 0} (plain : P → PlainPacket) (reads : S → SourceState
       }
 
       -- what is to be known of a history, that it goes on so
-      pub record GoesOn (reading : IsReading (reads source) block limit left h) : Type 0 where
-        pub ends : (failed : ℕ → Bool) (sinks_now : ℕ → SinkState) → EndsRightly limit (reads source_now).left (did failed sinks_now) ended
+      pub record GoesOn (reading : IsCutting (reads source) block limit left h) : Type 0 where
+        pub ends : (failed : ℕ → Bool) (sinks_now : ℕ → SinkState) → EndsRightly (Raw block) limit (reads source_now).left (did failed sinks_now) ended
         pub rest : ended ≡ None → length (h.read ++ taken) + left_now ≡ limit
         pub even : ended ≡ None → (count : ℕ) × (length (h.read ++ taken) ≡ count * block)
         pub moves : ended ≡ None → 0 < length taken
-        pub first : IsPrefix (h.fed ++ fed) (carried_by ended (kinds.Source reading.path (Raw block) limit) (h.read ++ taken))
-        pub all : short ≡ false → h.fed ++ fed ≡ carried_by ended (kinds.Source reading.path (Raw block) limit) (h.read ++ taken)
+        pub put : ended ≡ None → h.fed ++ fed ≡ full_blocks block (h.read ++ taken)
+        pub first : IsPrefix (h.fed ++ fed) (carried_by ended (h.fed ++ fed) (kinds.Source reading.reading.path (Raw block) limit) (h.read ++ taken))
+        pub all : short ≡ false → h.fed ++ fed ≡ carried_by ended (h.fed ++ fed) (kinds.Source reading.reading.path (Raw block) limit) (h.read ++ taken)
 
     module _ {F : Type 0} (source_now : S) (left_now : ℕ) (next : Next P) (read : ReadsPacket plain block left (reads source) (reads source_now) next)
         (now : Strand P S K) (ended : Option Outcome) (fed : Flow)
@@ -128,7 +131,7 @@ module _ {P S K : Type 0} (plain : P → PlainPacket) (reads : S → SourceState
       module _ (h : History) (stood : StandsFor plain reads writes old h)
           (goes : GoesOn source_now left_now read.taken ended fed now.tree.short h (was_reading h stood))
           (ready : ℕ) (found : ready ≡ option_map_or (λ i. i) (first_ready (stepped ready)) (length now.tree.nodes.items)) where
-        abbrev reading : IsReading (reads source) block limit left h
+        abbrev reading : IsCutting (reads source) block limit left h
         reading = was_reading h stood
 
         abbrev failed : ℕ → Bool
@@ -141,7 +144,7 @@ module _ {P S K : Type 0} (plain : P → PlainPacket) (reads : S → SourceState
         faults = subst (λ (b : Bool). CountsOnce b (reads source).faults (reads source_now).faults) fault read.faults
 
         flow_is : head_flow (did source_now left_now read.taken ended fed now.tree.short h failed sinks_now)
-            ≡ carried_by ended (kinds.Source reading.path (Raw block) limit) (h.read ++ read.taken)
+            ≡ carried_by ended (h.fed ++ fed) (kinds.Source reading.reading.path (Raw block) limit) (h.read ++ read.taken)
         flow_is = flow_now h (reads source) (reads source_now) block limit left reading (was_going h stood) read.taken read.took fed ended now.tree.short failed sinks_now faults
 
         stands : StandsFor plain reads writes (stepped ready) (did source_now left_now read.taken ended fed now.tree.short h failed sinks_now)
@@ -149,17 +152,23 @@ module _ {P S K : Type 0} (plain : P → PlainPacket) (reads : S → SourceState
             stepped_on plain reads writes old now.tree (FromSource source_now block limit left_now) ended ready h read.taken [] fed not_output not_done
             took.order took.nodes.count took.nodes.placed stood took.nodes.stand is found
             (rw flow_is (goes.first, goes.all))
-            (reading_on h (reads source) (reads source_now) block limit left reading (was_going h stood) read.taken read.took fed ended now.tree.short failed sinks_now faults
-            left_now (goes.ends failed sinks_now) goes.rest goes.even)
+            (cutting_on h (reads source) (reads source_now) block limit left reading (was_going h stood) read.taken read.took fed ended now.tree.short failed sinks_now faults
+            left_now (goes.ends failed sinks_now) goes.put goes.rest goes.even)
 
         in_block : (pipe : Pipe) (path : List ℕ) (size most : ℕ) → slice_get h.pipes h.head ≡ Some pipe → pipe.kind ≡ kinds.Source path (Raw size) most
             → length read.taken ≤ size
         in_block pipe path size most there kind =
-            let there_too : Some reading.pipe ≡ Some pipe = sym reading.there ∙ there in
-            let kind_too : reading.pipe.kind ≡ kinds.Source reading.path (Raw block) limit = reading.kind in
+            let there_too : Some reading.reading.pipe ≡ Some pipe = sym reading.reading.there ∙ there in
+            let kind_too : reading.reading.pipe.kind ≡ kinds.Source reading.reading.path (Raw block) limit = reading.reading.kind in
             let size_is : block ≡ size = cc in
             let within = read.in_block in
             omega (arith, size_is, within)
+
+        is_raw : (pipe : Pipe) (path : List ℕ) (most : ℕ) → slice_get h.pipes h.head ≡ Some pipe → pipe.kind ≡ kinds.Source path Framed most → ⊥
+        is_raw pipe path most there kind =
+            let there_too : Some reading.reading.pipe ≡ Some pipe = sym reading.reading.there ∙ there in
+            let kind_too : reading.reading.pipe.kind ≡ kinds.Source reading.reading.path (Raw block) limit = reading.reading.kind in
+            cc
 
         pub read_step : SteppedRead plain reads writes (stepped ready) h before after
         read_step = record {
@@ -174,13 +183,18 @@ module _ {P S K : Type 0} (plain : P → PlainPacket) (reads : S → SourceState
             stands = stands;
             stays = λ was. took.stays (stood.ended.short ∙ was);
             stopped = still_stopped plain reads writes old h (stepped ready) stood refl took.nodes.count took.nodes.placed;
+            given_up = λ short. absurd (let wrong : true ≡ false = sym short ∙ was_long h stood in cc);
           };
-          moves = goes.moves;
+          moves = λ none. let some = goes.moves none in omega (arith, some);
           one = one;
-          block = in_block;
-          room = room;
-          into = into;
-          drawn = drawn;
+          raw = λ pipe path size most there kind. record {
+            moves = goes.moves;
+            block = in_block pipe path size most there kind;
+            room = room;
+            into = into;
+          };
+          framed = λ pipe path most there kind. absurd (is_raw pipe path most there kind);
+          drawn = let few = count_with_bytes-few fed in omega (arith, few, drawn);
         }
 
       -- it took what the source gave
@@ -215,16 +229,18 @@ module _ {P S K : Type 0} (plain : P → PlainPacket) (reads : S → SourceState
           let some = reading.in_block.0 in
           let is_even : length h.read ≡ even.0 * block = even.1 in
           let one_more : (even.0 + 1) * block ≡ even.0 * block + block = omega arith in
-          let flow : carried_by (ended_where now.tree.short) (kinds.Source reading.path (Raw block) limit) (h.read ++ read.taken) ≡ h.fed ++ plain p ∷ [] =
-          carried_where now.tree.short reading.path block limit (h.read ++ read.taken)
-          ∙ block_more h (reads source) (reads source_now) block limit left reading going read.taken read.took [] None false (λ place. false) h.sinks_now read.faults whole
+          let put : full_blocks block (h.read ++ read.taken) ≡ h.fed ++ plain p ∷ [] =
+          block_more h (reads source) (reads source_now) block limit left reading going read.taken read.took [] None false (λ place. false) h.sinks_now read.faults whole
           ∙ ap (λ (x : PlainPacket). head_flow h ++ x ∷ []) (sym read.are.0) ∙ ap (λ (f : Flow). f ++ plain p ∷ []) (sym (was_all h stood)) in
+          let flow : carried_by (ended_where now.tree.short) (h.fed ++ plain p ∷ []) (kinds.Source reading.reading.path (Raw block) limit) (h.read ++ read.taken) ≡ h.fed ++ plain p ∷ [] =
+          carried_where now.tree.short reading.reading.path block limit (h.fed ++ plain p ∷ []) (h.read ++ read.taken) put in
           record {
-            ends = λ failed sinks_now. ends_where limit (reads source_now).left (did source_now (left - wide) read.taken (ended_where now.tree.short) (plain p ∷ []) now.tree.short h failed sinks_now)
+            ends = λ failed sinks_now. ends_where block limit (reads source_now).left (did source_now (left - wide) read.taken (ended_where now.tree.short) (plain p ∷ []) now.tree.short h failed sinks_now)
                 now.tree.short refl (omega (arith, sum, whole, fits, long, width));
             rest = λ none. omega (arith, sum, whole, fits, long, width);
             even = λ none. (even.0 + 1, omega (arith, is_even, one_more, whole, long));
             moves = λ none. omega (arith, whole, some);
+            put = λ none. sym put;
             first = same_first (h.fed ++ plain p ∷ []) _ flow;
             all = λ is_long. sym flow;
           })
@@ -247,10 +263,11 @@ module _ {P S K : Type 0} (plain : P → PlainPacket) (reads : S → SourceState
           last_more h (reads source) (reads source_now) block limit left reading going read.taken read.took [] None false (λ place. false) h.sinks_now read.faults read.are.1 read.are.2
           ∙ ap (λ (x : PlainPacket). head_flow h ++ x ∷ []) (sym read.are.0) ∙ ap (λ (f : Flow). f ++ plain p ∷ []) (sym (was_all h stood)) in
           record {
-            ends = λ failed sinks_now. (omega (arith, sum, fits, long), read.are.4);
+            ends = λ failed sinks_now. (raw_whole block limit (h.read ++ read.taken) (omega (arith, sum, fits, long)), read.are.4);
             rest = λ wrong. absurd (cc);
             even = λ wrong. absurd (cc);
             moves = λ wrong. absurd (cc);
+            put = λ wrong. absurd (cc);
             first = same_first (h.fed ++ plain p ∷ []) _ flow;
             all = λ is_long. sym flow;
           })
@@ -277,10 +294,11 @@ module _ {P S K : Type 0} (plain : P → PlainPacket) (reads : S → SourceState
           let flow = still h stood (blocks block (h.read ++ read.taken))
           (end_more h (reads source) (reads source_now) block limit left reading going read.taken read.took [] None false (λ place. false) h.sinks_now read.faults read.are.0) in
           record {
-            ends = λ failed sinks_now. (omega (arith, sum, none, long), read.are.1);
+            ends = λ failed sinks_now. (raw_whole block limit (h.read ++ read.taken) (omega (arith, sum, none, long)), read.are.1);
             rest = λ wrong. absurd (cc);
             even = λ wrong. absurd (cc);
             moves = λ wrong. absurd (cc);
+            put = λ wrong. absurd (cc);
             first = same_first (h.fed ++ []) _ flow;
             all = λ is_long. sym flow;
           })
@@ -302,10 +320,11 @@ module _ {P S K : Type 0} (plain : P → PlainPacket) (reads : S → SourceState
           let flow = still h stood (full_blocks block (h.read ++ read.taken))
           (fault_more h (reads source) (reads source_now) block limit left reading going read.taken read.took [] (Some outcomes.ReadFault) false (λ place. false) h.sinks_now read.faults read.are.0) in
           record {
-            ends = λ failed sinks_now. (short ∙ tree_long h stood, omega (arith, sum, fits, long));
+            ends = λ failed sinks_now. (short ∙ tree_long h stood, raw_unshown block limit (h.read ++ read.taken) (omega (arith, sum, fits, long)));
             rest = λ wrong. absurd (cc);
             even = λ wrong. absurd (cc);
             moves = λ wrong. absurd (cc);
+            put = λ wrong. absurd (cc);
             first = same_first (h.fed ++ []) _ flow;
             all = λ is_long. sym flow;
           })
@@ -327,10 +346,12 @@ module _ {P S K : Type 0} (plain : P → PlainPacket) (reads : S → SourceState
           let flow = still h stood (full_blocks block (take limit (h.read ++ read.taken)))
           (long_more h (reads source) (reads source_now) block limit left reading going read.taken read.took [] None false (λ place. false) h.sinks_now read.faults over read.in_block) in
           record {
-            ends = λ failed sinks_now. (short ∙ tree_long h stood, refl, omega (arith, sum, over, long));
+            ends = λ failed sinks_now. raw_told block limit (reads source_now).left
+                (did source_now left read.taken (Some (outcomes.TooLong limit)) [] now.tree.short h failed sinks_now) (short ∙ tree_long h stood) (omega (arith, sum, over, long));
             rest = λ wrong. absurd (cc);
             even = λ wrong. absurd (cc);
             moves = λ wrong. absurd (cc);
+            put = λ wrong. absurd (cc);
             first = same_first (h.fed ++ []) _ flow;
             all = λ is_long. sym flow;
           })
@@ -356,6 +377,7 @@ module _ {P S K : Type 0} (plain : P → PlainPacket) (reads : S → SourceState
             rest = λ wrong. absurd (cc);
             even = λ wrong. absurd (cc);
             moves = λ wrong. absurd (cc);
+            put = λ wrong. absurd (cc);
             first = subst (λ (f : Flow). IsPrefix f (full_blocks block (h.read ++ read.taken))) (sym front)
                 (go_on h (reads source) (reads source_now) block limit left reading going read.taken read.took [] None false (λ place. false) h.sinks_now
                 (subst (λ (b : Bool). CountsOnce b (reads source).faults (reads source_now).faults) fault read.faults));

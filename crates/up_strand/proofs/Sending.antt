@@ -83,7 +83,7 @@ module _ {P K : Type 0} (plain : P → PlainPacket) (state : K → SinkState) wh
   outlet_kind : (seat : Seat) (short : Bool) (part : Part K) (fed : Flow) → is_outlet part ≡ true → PartStands plain state seat short part fed → seat.kind ≡ None
   outlet_kind seat short Head fed outlet stood = absurd (cc)
   outlet_kind seat short (PipePart m) fed outlet stood = absurd (cc)
-  outlet_kind seat short (Sink sink failed) fed outlet stood = absurd (cc)
+  outlet_kind seat short (Sink sink spelling failed) fed outlet stood = absurd (cc)
   outlet_kind seat short Outlet fed outlet stood = stood
   outlet_kind seat short (Ended whole) fed outlet stood = absurd (cc)
 

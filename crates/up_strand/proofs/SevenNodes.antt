@@ -16,6 +16,7 @@ use Rattle.up_strand.specs.Stand.{StandForSome}
 use Rattle.up_strand.specs.Tree.{AreTakers, IsTree, IsOrder, IsSwept}
 use Rattle.up_strand.specs.declared.node.Node.{Node}
 use Rattle.up_strand.specs.declared.node.Part.TheVariants.{Head, Sink}
+use Rattle.up_strand.specs.declared.spelling.Spelling.TheVariants.{Raw}
 
 -- a node takes from its input alone
 taken : (input : Option ℕ) (k : ℕ) (R : ℕ → Type 0) → input ≡ Some k → R k → (place : ℕ) → takes_from input place ≡ true → R place
@@ -95,11 +96,11 @@ head_seat start = record { kind = Some (kinds.Source (111 ∷ []) (source_forms.
 
 module _ {P K : Type 0} (plain : P → PlainPacket) (state : K → SinkState) where
   pub new_sink : (node : Node P K) (sink : K)
-      → ((seat : Seat) → IfSome seat.kind IsWithinBounds → PartStands plain state seat false (Sink sink false) [] → NodeStands plain state seat node [] [])
+      → ((seat : Seat) → IfSome seat.kind IsWithinBounds → PartStands plain state seat false (Sink sink Raw false) [] → NodeStands plain state seat node [] [])
       → NodeStands plain state (sink_seat (state sink)) node [] []
   unfolding sink_seat
   new_sink node sink stands = stands (sink_seat (state sink)) ((path_is_utf8, refl), tt)
-      (tt, receives_nothing (state sink) true, record { counts = record { later = omega arith; rose = λ wrong. absurd (cc); stays = λ is. refl }; once = omega arith })
+      (refl, receives_nothing (state sink) true, record { counts = record { later = omega arith; rose = λ wrong. absurd (cc); stays = λ is. refl }; once = omega arith })
 
   pub new_head : (start : SinkState) (node : Node P K)
       → ((seat : Seat) → IfSome seat.kind IsWithinBounds → PartStands plain state seat false Head [] → NodeStands plain state seat node [] [])

@@ -6,11 +6,10 @@ use Rattle.std.specs.Option.{option_map_or, option_to_list}
 use Rattle.std.proofs.lemmas.Bool.{cases_Bool, lt-leb}
 use Rattle.std.proofs.lemmas.Option.{slice_get-get_or, slice_get_cases}
 use Rattle.up_base.specs.Lists.{IsPrefix}
-use Rattle.up_model.specs.Chain.{IsRawSink}
 use Rattle.up_model.specs.Ends.{is_source}
 use Rattle.up_model.specs.Packet.{Flow}
 use Rattle.up_model.specs.Plans.{strand_of}
-use Rattle.up_model.specs.declared.form.SinkForm.TheVariants.{Raw}
+use Rattle.up_model.specs.declared.form.SinkForm.{SinkForm}
 use Rattle.up_model.specs.declared.kind.Kind.{Kind}
 use Rattle.up_model.specs.declared.kind.Kind.TheVariants as kinds
 use Rattle.up_model.specs.declared.outcome.Outcome.{Outcome}
@@ -22,29 +21,31 @@ use Rattle.up_strand.proofs.Sweeping.{swept_on}
 use Rattle.up_strand.proofs.Told.{failed_is, place_found}
 use Rattle.up_strand.specs.AnyModule.{any_kind, has_module}
 use Rattle.up_strand.specs.History.{History, head_flow}
-use Rattle.up_strand.specs.Nodes.{PartStands, Seat, has_failed, is_outlet, takes_from}
+use Rattle.up_strand.specs.Nodes.{PartStands, Seat, has_failed, holds_sink, is_outlet, takes_from}
 use Rattle.up_strand.specs.Stand.{Past, Stand, StandWith, Went, AreAsPlaced}
+use Rattle.up_strand.specs.Spellings.{IsSinkOf, form_of}
 use Rattle.up_strand.specs.Steps.{IsGoing, OnceLooked, TreeIs, looked_from}
 use Rattle.up_strand.specs.StrandCalls.{is_done, is_output, no_sink}
 use Rattle.up_strand.specs.Strands.{IntakeStands, IsAsEnded, IsBuilt, IsSent, IsWriting, StandsFor, StandsForSome, StrandFits, first_ready, has_failed_at, has_item, kept_at, node_of, place_of, want_of}
 use Rattle.up_strand.specs.declared.intake.Intake.{Intake}
-use Rattle.up_strand.specs.declared.intake.Intake.TheVariants.{FromSource, FromLane}
+use Rattle.up_strand.specs.declared.intake.Intake.TheVariants.{FromSource, FromFrames, FromLane}
 use Rattle.up_strand.specs.declared.node.Node.{Node}
 use Rattle.up_strand.specs.declared.node.Part.{Part}
 use Rattle.up_strand.specs.declared.node.Part.TheVariants.{Head, Pipe as PipePart, Sink, Outlet, Ended}
+use Rattle.up_strand.specs.declared.spelling.Spelling.{Spelling}
 use Rattle.up_strand.specs.declared.strand.Strand.{Strand}
 use Rattle.up_strand.specs.declared.tree.Tree.{Tree}
 
 -- a sink's pipe is no source's and has no module
-sink_is_no_source : (kind : Option Kind) → MatchOption kind ⊥ IsRawSink → MatchOption kind ⊥ (λ k. is_source k ≡ true) → ⊥
-sink_is_no_source None sink source = sink
-sink_is_no_source (Some (kinds.Sink path Raw)) sink source = absurd (cc)
-sink_is_no_source (Some kind) sink source = sink
+sink_is_no_source : (form : SinkForm) (kind : Option Kind) → MatchOption kind ⊥ (IsSinkOf form) → MatchOption kind ⊥ (λ k. is_source k ≡ true) → ⊥
+sink_is_no_source form None sink source = sink
+sink_is_no_source form (Some (kinds.Sink path own)) sink source = absurd (cc)
+sink_is_no_source form (Some kind) sink source = sink
 
-sink_has_no_module : (kind : Option Kind) → MatchOption kind ⊥ IsRawSink → MatchOption kind ⊥ (λ k. has_module k ≡ true) → ⊥
-sink_has_no_module None sink other = sink
-sink_has_no_module (Some (kinds.Sink path Raw)) sink other = absurd (cc)
-sink_has_no_module (Some kind) sink other = sink
+sink_has_no_module : (form : SinkForm) (kind : Option Kind) → MatchOption kind ⊥ (IsSinkOf form) → MatchOption kind ⊥ (λ k. has_module k ≡ true) → ⊥
+sink_has_no_module form None sink other = sink
+sink_has_no_module form (Some (kinds.Sink path own)) sink other = absurd (cc)
+sink_has_no_module form (Some kind) sink other = sink
 
 none_either : {P : Type 0} (here : Bool) (kept : Option P) → kept ≡ None → (if here then option_to_list kept else []) ≡ []
 none_either true kept none = rw none refl
@@ -52,25 +53,25 @@ none_either false kept none = refl
 
 module _ {P K : Type 0} (plain : P → PlainPacket) (writes : K → SinkState) where
   -- a part of a sink's pipe is a sink
-  sink_part : (seat : Seat) (short : Bool) (part : Part K) (fed : Flow) → MatchOption seat.kind ⊥ IsRawSink
-      → PartStands plain writes seat short part fed → (sink : K) × (failed : Bool) × (part ≡ Sink sink failed)
-  sink_part seat short Head fed is stands = absurd (sink_is_no_source seat.kind is stands)
-  sink_part seat short (PipePart m) fed is stands =
-      absurd (sink_has_no_module (Some (any_kind m)) (rw stands.0 at is) (any_has_module m))
-  sink_part seat short (Sink sink failed) fed is stands = (sink, failed, refl)
-  sink_part seat short Outlet fed is stands = absurd (rw stands at is)
-  sink_part seat short (Ended whole) fed is stands = absurd (sink_has_no_module seat.kind is stands)
+  sink_part : (form : SinkForm) (seat : Seat) (short : Bool) (part : Part K) (fed : Flow) → MatchOption seat.kind ⊥ (IsSinkOf form)
+      → PartStands plain writes seat short part fed → (sink : K) × (spelling : Spelling) × (failed : Bool) × (part ≡ Sink sink spelling failed)
+  sink_part form seat short Head fed is stands = absurd (sink_is_no_source form seat.kind is stands)
+  sink_part form seat short (PipePart m) fed is stands =
+      absurd (sink_has_no_module form (Some (any_kind m)) (rw stands.0 at is) (any_has_module m))
+  sink_part form seat short (Sink sink spelling failed) fed is stands = (sink, spelling, failed, refl)
+  sink_part form seat short Outlet fed is stands = absurd (rw stands at is)
+  sink_part form seat short (Ended whole) fed is stands = absurd (sink_has_no_module form seat.kind is stands)
 
   -- a sink was one before
   pub sink_before : (olds news : List (Node P K)) (past : Past) (fed gone : ℕ → Flow) → length news ≡ length olds → Stand plain writes olds past
       → Stand plain writes news (record { seats = past.seats; fed = fed; gone = gone })
-      → (i : ℕ) (d : Node P K) (sink : K) (failed : Bool) → i < length news → (get_or news i d).part ≡ Sink sink failed
-      → (before : K) × (had : Bool) × ((get_or olds i d).part ≡ Sink before had)
-  sink_before olds news past fed gone same before after i d sink failed within is =
+      → (i : ℕ) (d : Node P K) (sink : K) (spelling : Spelling) (failed : Bool) → i < length news → (get_or news i d).part ≡ Sink sink spelling failed
+      → (before : K) × (spelt : Spelling) × (had : Bool) × ((get_or olds i d).part ≡ Sink before spelt had)
+  sink_before olds news past fed gone same before after i d sink spelling failed within is =
       let now = (after.node i d within).part in
-      let sink_now : PartStands plain writes (past.seats i) (get_or news i d).short (Sink sink failed) (fed i) =
+      let sink_now : PartStands plain writes (past.seats i) (get_or news i d).short (Sink sink spelling failed) (fed i) =
       subst (λ (part : Part K). PartStands plain writes (past.seats i) (get_or news i d).short part (fed i)) is now in
-      sink_part (past.seats i) (get_or olds i d).short (get_or olds i d).part (past.fed i) sink_now.0 (before.node i d (omega arith)).part
+      sink_part (form_of spelling) (past.seats i) (get_or olds i d).short (get_or olds i d).part (past.fed i) sink_now.0 (before.node i d (omega arith)).part
 
 module _ {P S K : Type 0} (strand : Strand P S K) where
   -- where it wants no output nothing waits for a lane
@@ -104,61 +105,78 @@ module _ {P S K : Type 0} (strand : Strand P S K) where
 -- what the source of a head tells, where it is one
 abbrev pub source_in : {S : Type 0} → (S → SourceState) → Intake S → Option SourceState
 source_in reads (FromSource source block limit left) = Some (reads source)
+source_in reads (FromFrames frames) = Some (reads frames.source)
 source_in reads FromLane = None
 
 -- what the sink of a part tells, where it is one
 abbrev pub sink_in : {K : Type 0} → (K → SinkState) → Part K → SinkState
-sink_in writes (Sink sink failed) = writes sink
+sink_in writes (Sink sink spelling failed) = writes sink
 sink_in writes part = no_sink
 
-failed_sink : {K : Type 0} (part : Part K) → has_failed part ≡ true → (sink : K) × (part ≡ Sink sink true)
+failed_sink : {K : Type 0} (part : Part K) → has_failed part ≡ true → (sink : K) × (spelling : Spelling) × (part ≡ Sink sink spelling true)
 failed_sink Head failed = absurd (cc)
 failed_sink (PipePart m) failed = absurd (cc)
-failed_sink (Sink sink true) failed = (sink, refl)
-failed_sink (Sink sink false) failed = absurd (cc)
+failed_sink (Sink sink spelling true) failed = (sink, spelling, refl)
+failed_sink (Sink sink spelling false) failed = absurd (cc)
 failed_sink Outlet failed = absurd (cc)
 failed_sink (Ended whole) failed = absurd (cc)
 
-same_sink : {K : Type 0} (a b : K) (had has : Bool) → Sink a had ≡ Sink b has → a ≡ b
-same_sink a b had has same = cc
+same_sink : {K : Type 0} (a b : K) (spelt spelling : Spelling) (had has : Bool) → Sink a spelt had ≡ Sink b spelling has → a ≡ b
+same_sink a b spelt spelling had has same = cc
 
 module _ {P S K : Type 0} (plain : P → PlainPacket) (reads : S → SourceState) (writes : K → SinkState)
     (old : Strand P S K) (h : History) (new : Strand P S K) where
-  -- what the sinks tell after a step: one that had failed tells what it told
+  -- what the sinks tell after a step: one that had failed tells what it told, and each does once memory ran out
   abbrev pub sinks_after : ℕ → SinkState
   sinks_after place =
-      if h.failed place then h.sinks_now place
+      if h.short then h.sinks_now place
+      else if h.failed place then h.sinks_now place
       else option_map_or (λ node. sink_in writes node.part) (option_and_then (slice_get new.tree.nodes.items) (node_of new place)) no_sink
 
   module _ (stood : StandsFor plain reads writes old h) (places : new.places ≡ old.places)
       (same : length new.tree.nodes.items ≡ length old.tree.nodes.items) (placed : AreAsPlaced old.tree.nodes.items new.tree.nodes.items) where
-    pub sinks_told_after : (i : ℕ) (d : Node P K) (sink : K) (failed : Bool) → i < length new.tree.nodes.items
-        → (get_or new.tree.nodes.items i d).part ≡ Sink sink failed → sinks_after (place_of new i) ≡ writes sink
-    sinks_told_after i d sink failed within is =
+    pub sinks_told_after : (i : ℕ) (d : Node P K) (sink : K) (spelling : Spelling) (failed : Bool) → i < length new.tree.nodes.items
+        → (get_or new.tree.nodes.items i d).part ≡ Sink sink spelling failed → sinks_after (place_of new i) ≡ writes sink
+    sinks_told_after i d sink spelling failed within is =
         let here : i < length old.tree.nodes.items = omega arith in
         let place : place_of new i ≡ place_of old i = ap (λ (items : Vec ℕ Global). get_or items.items i 0) places in
         let had : h.failed (place_of new i) ≡ has_failed (get_or old.tree.nodes.items i d).part =
         ap h.failed place ∙ failed_is plain reads writes old h stood i d here in
-        elim (cases_Bool (has_failed (get_or old.tree.nodes.items i d).part)) [
-          | inl stopped ↦
-              let before = failed_sink (get_or old.tree.nodes.items i d).part stopped in
-              let sink_is : before.0 ≡ sink = same_sink before.0 sink true failed (sym before.1 ∙ sym ((placed i d here).stopped stopped) ∙ is) in
-              let told : h.sinks_now (place_of old i) ≡ writes before.0 = stood.writing.now i d before.0 true here before.1 in
-              rw (had ∙ stopped) (ap h.sinks_now place ∙ told ∙ ap writes sink_is)
-          | inr works ↦
-              let count = stood.built.count in
-              let found : node_of new (place_of new i) ≡ Some i =
-              rw places (place_found old.places.items i stood.built.apart (omega (arith, here, count))) in
-              rw (had ∙ works, found, slice_get-get_or new.tree.nodes.items i d within, is) refl
+        elim (cases_Bool h.short) [
+          | inl short ↦
+              let fallen = stood.ended.nodes.fallen short i d here in
+              let stays = (placed i d here).still fallen (ap holds_sink is) in
+              rw short (ap h.sinks_now place ∙ stood.writing.now i d sink spelling failed here (sym stays ∙ is))
+          | inr long ↦
+              elim (cases_Bool (has_failed (get_or old.tree.nodes.items i d).part)) [
+                | inl stopped ↦
+                    let before = failed_sink (get_or old.tree.nodes.items i d).part stopped in
+                    let sink_is : before.0 ≡ sink = same_sink before.0 sink before.1 spelling true failed (sym before.2 ∙ sym ((placed i d here).stopped stopped) ∙ is) in
+                    let told : h.sinks_now (place_of old i) ≡ writes before.0 = stood.writing.now i d before.0 before.1 true here before.2 in
+                    rw (long, had ∙ stopped) (ap h.sinks_now place ∙ told ∙ ap writes sink_is)
+                | inr works ↦
+                    let count = stood.built.count in
+                    let found : node_of new (place_of new i) ≡ Some i =
+                    rw places (place_found old.places.items i stood.built.apart (omega (arith, here, count))) in
+                    rw (long, had ∙ works, found, slice_get-get_or new.tree.nodes.items i d within, is) refl
+              ]
         ]
+
+    -- once memory ran out each tells what it told
+    pub still_told : h.short ≡ true → (place : ℕ) → sinks_after place ≡ h.sinks_now place
+    still_told short place = rw short refl
 
     -- a sink that had failed has failed still, and tells what it told
     pub still_stopped : (place : ℕ) → h.failed place ≡ true → (has_failed_at new place ≡ true) × (sinks_after place ≡ h.sinks_now place)
     still_stopped place failed = (
       rw places (by_node (node_of old place) (sym (stood.writing.failed place) ∙ failed)),
-      rw failed refl,
+      by_short h.short refl,
     )
       where
+        by_short : (short : Bool) → h.short ≡ short → sinks_after place ≡ h.sinks_now place
+        by_short true is = still_told is place
+        by_short false is = rw (is, failed) refl
+
         by_node : (found : Option ℕ) → option_map_or (λ (node : Node P K). has_failed node.part) (option_and_then (slice_get old.tree.nodes.items) found) false ≡ true
             → option_map_or (λ (node : Node P K). has_failed node.part) (option_and_then (slice_get new.tree.nodes.items) found) false ≡ true
         by_node None is = absurd (cc)
@@ -260,9 +278,9 @@ module _ {P S K : Type 0} (plain : P → PlainPacket) (reads : S → SourceState
 
     writing_on : StandsFor plain reads writes old h → Stand plain writes old.tree.nodes.items past → IsWriting old writes h past → IsWriting after writes grown since
     writing_on stood stand writing = record {
-      starts = λ i d sink failed within is.
-          let before = sink_before plain writes old.tree.nodes.items tree.nodes.items past went.fed went.gone same stand went.stand i d sink failed within is in
-          writing.starts i d before.0 before.1 (omega arith) before.2;
+      starts = λ i d sink spelling failed within is.
+          let before = sink_before plain writes old.tree.nodes.items tree.nodes.items past went.fed went.gone same stand went.stand i d sink spelling failed within is in
+          writing.starts i d before.0 before.1 before.2 (omega arith) before.3;
       now = sinks_told_after plain reads writes old h after stood refl same placed;
       failed = λ place. refl;
     }

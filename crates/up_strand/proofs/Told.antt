@@ -8,11 +8,9 @@ use Rattle.std.proofs.lemmas.Bool.Decides.{eqb_tells, leb_tells}
 use Rattle.std.proofs.lemmas.List.{get_or_append_left, get_or_default}
 use Rattle.std.proofs.lemmas.List.Sums.{position_or_len_is}
 use Rattle.std.proofs.lemmas.Option.{same_Some, slice_get-get_or}
-use Rattle.up_model.specs.Chain.{IsRawSink}
 use Rattle.up_model.specs.Ends.{is_source}
 use Rattle.up_model.specs.Packet.{Flow}
 use Rattle.up_model.specs.Plans.{outlets_of, strand_of}
-use Rattle.up_model.specs.declared.form.SinkForm.TheVariants.{Raw}
 use Rattle.up_model.specs.declared.kind.Kind.{Kind}
 use Rattle.up_model.specs.declared.kind.Kind.TheVariants as kinds
 use Rattle.up_model.specs.declared.outcome.Outcome.{Outcome}
@@ -26,10 +24,12 @@ use Rattle.up_model.specs.Meaning.{selected}
 use Rattle.up_strand.specs.AnyModule.{any_kind, has_module}
 use Rattle.up_strand.specs.History.{History, outcome_by, outcome_of_source, outcome_without, told_at}
 use Rattle.up_strand.specs.Nodes.{Seat, PartStands, has_failed, is_outlet}
+use Rattle.up_strand.specs.Spellings.{IsSinkOf, form_of}
 use Rattle.up_strand.specs.Strands.{StandsFor, node_of, outcome_of_part, place_of}
 use Rattle.up_strand.specs.declared.node.Node.{Node}
 use Rattle.up_strand.specs.declared.node.Part.{Part}
 use Rattle.up_strand.specs.declared.node.Part.TheVariants.{Head, Pipe as PipePart, Sink, Outlet, Ended}
+use Rattle.up_strand.specs.declared.spelling.Spelling.{Spelling}
 use Rattle.up_strand.specs.declared.strand.Strand.{Strand}
 
 -- a pipe with a module has no cause of its own
@@ -43,10 +43,11 @@ by_source (kinds.Source path form limit) failed short ended is = refl
 by_source kind failed short ended is = absurd (cc)
 
 module _ {K : Type 0} (plain_short : Bool) (ended : Option Outcome) where
-  by_sink : (kind : Kind) (sink : K) (failed : Bool) → IsRawSink kind → outcome_of_part (Sink sink failed) plain_short ended ≡ outcome_by kind failed plain_short ended
-  by_sink (kinds.Sink path Raw) sink true is = refl
-  by_sink (kinds.Sink path Raw) sink false is = refl
-  by_sink kind sink failed is = absurd is
+  by_sink : (kind : Kind) (sink : K) (spelling : Spelling) (failed : Bool) → IsSinkOf (form_of spelling) kind
+      → outcome_of_part (Sink sink spelling failed) plain_short ended ≡ outcome_by kind failed plain_short ended
+  by_sink (kinds.Sink path own) sink spelling true is = refl
+  by_sink (kinds.Sink path own) sink spelling false is = refl
+  by_sink kind sink spelling failed is = absurd is
 
   -- the outcome of a part of the kind
   by_part : {P : Type 0} (plain : P → PlainPacket) (state : K → SinkState) (seat : Seat) (kind : Kind) (short : Bool) (part : Part K) (fed : Flow)
@@ -55,7 +56,7 @@ module _ {K : Type 0} (plain_short : Bool) (ended : Option Outcome) where
   by_part plain state seat kind short Head fed is inner part = by_source kind false plain_short ended (rw is at part)
   by_part plain state seat kind short (PipePart m) fed is inner part =
       by_module kind false plain_short ended (ap has_module (same_Some kind (any_kind m) (sym is ∙ part.0)) ∙ any_has_module m)
-  by_part plain state seat kind short (Sink sink failed) fed is inner part = by_sink kind sink failed (rw is at part.0)
+  by_part plain state seat kind short (Sink sink spelling failed) fed is inner part = by_sink kind sink spelling failed (rw is at part.0)
   by_part plain state seat kind short Outlet fed is inner part = absurd (cc)
   by_part plain state seat kind short (Ended whole) fed is inner part = by_module kind false plain_short ended (rw is at part)
 

@@ -1,11 +1,12 @@
 -- What is taken out of the nodes of a strand that is given up.
-use Rattle.std.specs.Prelude.{◌≡◌, ℕ, ◌<◌, ◌≤◌, List, [], ◌∷◌, length, map, take, slice_index_or, Bool, true, false}
+use Rattle.std.specs.Prelude.{◌≡◌, ℕ, ◌<◌, ◌≤◌, List, [], ◌∷◌, length, map, take, slice_index_or, false}
 use Rattle.std.specs.List.{flat_map}
 use Rattle.up_model.specs.Tallies.{uncaught}
 use Rattle.up_model.specs.declared.catch_set.CatchSet.{CatchSet}
 use Rattle.up_model.specs.declared.outcome.Outcome.{Outcome}
 use Rattle.up_model.specs.declared.tally.Tally.{Tally}
 use Rattle.up_strand.specs.History.{told_at_last}
+use Rattle.up_strand.specs.Nodes.{holds_sink}
 use Rattle.up_strand.specs.Strands.{outcome_of_part}
 use Rattle.up_strand.specs.declared.closing.Ending.{Ending}
 use Rattle.up_strand.specs.declared.closing.Told.{Told}
@@ -15,12 +16,8 @@ use Rattle.up_strand.specs.declared.node.Part.TheVariants.{Sink}
 
 -- the sink of a node that is one
 abbrev pub sinks_in : {K : Type 0} → Part K → List K
-sinks_in (Sink sink failed) = sink ∷ []
+sinks_in (Sink sink spelling failed) = sink ∷ []
 sinks_in part = []
-
-abbrev pub holds_sink : {K : Type 0} → Part K → Bool
-holds_sink (Sink sink failed) = true
-holds_sink part = false
 
 -- the outcome of the pipe at a node
 abbrev pub outcome_at : {P K : Type 0} → Ending → Node P K → Outcome

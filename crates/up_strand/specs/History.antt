@@ -3,13 +3,13 @@ use Rattle.std.specs.Prelude.{ℕ, ◌==◌, List, [], slice_get, Bool, true, fa
 use Rattle.std.specs.Option.{option_map_or}
 use Rattle.up_model.specs.Ends.{is_source}
 use Rattle.up_model.specs.Meaning.{Doing, Feeding, wholly, so_far, pipe_work}
-use Rattle.up_model.specs.Outcomes.{carried_as, settled_source_flow, outcome_behind, is_cause}
+use Rattle.up_model.specs.Outcomes.{carried_as, outcome_behind, is_cause}
 use Rattle.up_model.specs.Packet.{Flow}
 use Rattle.up_model.specs.Tallies.{stopped, past_own_probe}
 use Rattle.up_model.specs.declared.kind.Kind.{Kind}
 use Rattle.up_model.specs.declared.kind.Kind.TheVariants.{Source, Sink}
 use Rattle.up_model.specs.declared.outcome.Outcome.{Outcome}
-use Rattle.up_model.specs.declared.outcome.Outcome.TheVariants.{Whole, ReadFault, WriteFault, TooLong, Broken, NoMemory}
+use Rattle.up_model.specs.declared.outcome.Outcome.TheVariants.{Whole, ReadFault, WriteFault, BadFrame, TooLong, Broken, NoMemory}
 use Rattle.up_model.specs.declared.pipe.Pipe.{Pipe}
 use Rattle.up_model.specs.declared.tally.Tally.{Tally}
 use Rattle.up_outside.specs.States.{SourceState, SinkState}
@@ -52,19 +52,20 @@ doing None = so_far
 doing (Some Whole) = wholly
 doing (Some ReadFault) = so_far
 doing (Some WriteFault) = so_far
+doing (Some (BadFrame offset)) = so_far
 doing (Some (TooLong limit)) = so_far
 doing (Some Broken) = so_far
 doing (Some NoMemory) = so_far
 
--- what a source carried so far, or in all once its flow has ended
-abbrev pub carried_by : Option Outcome → Kind → List ℕ → Flow
-carried_by None kind bytes = settled_source_flow kind bytes
-carried_by (Some ended) kind bytes = carried_as ended kind bytes
+-- what a source carried once its flow has ended; before that it had what it put out
+abbrev pub carried_by : Option Outcome → Flow → Kind → List ℕ → Flow
+carried_by None put kind bytes = put
+carried_by (Some ended) put kind bytes = carried_as ended kind bytes
 
 -- the packets that the head had: a source what it carried, any other what came through its lane
 abbrev pub head_flow : History → Flow
 head_flow h = option_map_or
-    (λ pipe. if is_source pipe.kind then carried_by h.ended pipe.kind h.read else h.came)
+    (λ pipe. if is_source pipe.kind then carried_by h.ended h.fed pipe.kind h.read else h.came)
     (slice_get h.pipes h.head) []
 
 -- the outcome of a pipe without a cause of its own, by whether memory ran out and by how the head's
@@ -99,6 +100,7 @@ told_at_last true outcome = outcome
 told_at_last false Whole = Broken
 told_at_last false ReadFault = ReadFault
 told_at_last false WriteFault = WriteFault
+told_at_last false (BadFrame offset) = BadFrame offset
 told_at_last false (TooLong limit) = TooLong limit
 told_at_last false Broken = Broken
 told_at_last false NoMemory = NoMemory

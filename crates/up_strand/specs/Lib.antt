@@ -1,5 +1,6 @@
 pub mod AnyModule
 pub mod Closing
+pub mod Frames
 pub mod Gifts
 pub mod History
 pub mod Making
@@ -8,6 +9,7 @@ pub mod OfGraph
 pub mod Reads
 pub mod Rooms
 pub mod Shapes
+pub mod Spellings
 pub mod Stand
 pub mod Steps
 pub mod StrandCalls

@@ -19,6 +19,7 @@ use Rattle.up_strand.specs.declared.making.Rooms.{Rooms}
 use Rattle.up_strand.specs.declared.node.Node.{Node}
 use Rattle.up_strand.specs.declared.node.Part.TheVariants.{Sink}
 use Rattle.up_strand.specs.declared.shape.Shape.{Shape}
+use Rattle.up_strand.specs.declared.spelling.Spelling.{Spelling}
 
 abbrev pub catches_nothing : CatchSet
 catches_nothing = record { drop = false; cut = false; sync = false; lost = false }
@@ -75,8 +76,8 @@ module _ (pipes : List Pipe) (shape : Shape) where
       pub input : node.input ≡ input_in shape.inputs.items i
       pub takers : node.takers ≡ slice_index_or shape.takers.items i None
       pub outlet : is_outlet node.part ≡ nat_le shape.pipes i
-      pub start : (sink : K) (failed : Bool) → node.part ≡ Sink sink failed
-          → (seat_in told i).start ≡ state sink
+      pub start : (sink : K) (spelling : Spelling) (failed : Bool)
+          → node.part ≡ Sink sink spelling failed → (seat_in told i).start ≡ state sink
       pub failed : has_failed node.part ≡ false
       pub empty : node.out.packets ≡ []
       pub sound : IsSound node

@@ -1,10 +1,9 @@
 -- What a node of a strand stands for: the flow that it took, and the flow that has left it.
 use Rattle.std.specs.Prelude.{◌≡◌, ◌==◌, ℕ, [], ◌++◌, map, All, Bool, true, false, not, ◌&&◌, Option, Some, None, IfSome, MatchOption}
-use Rattle.up_model.specs.Chain.{IsRawSink}
-use Rattle.up_model.specs.Ends.{is_source}
+use Rattle.up_model.specs.Ends.{is_source, written_by}
 use Rattle.up_model.specs.Kinds.{IsWithinBounds}
 use Rattle.up_model.specs.Meaning.{wholly, so_far, done_by}
-use Rattle.up_model.specs.Packet.{Flow, IsLegal, joined}
+use Rattle.up_model.specs.Packet.{Flow, IsLegal}
 use Rattle.up_model.specs.Tallies.{IsAtMost, nothing, stopped}
 use Rattle.up_model.specs.Work.{Work}
 use Rattle.up_model.specs.declared.kind.Kind.{Kind}
@@ -13,6 +12,7 @@ use Rattle.up_outside.specs.Counts.{CountsOnce}
 use Rattle.up_outside.specs.States.{SinkState}
 use Rattle.up_shape.specs.Outgoing.{Outgoing}
 use Rattle.up_strand.specs.AnyModule.{any_kind, AnyStands, has_module}
+use Rattle.up_strand.specs.Spellings.{IsSinkOf, form_of}
 use Rattle.up_strand.specs.Writing.{Receives}
 use Rattle.up_strand.specs.declared.node.Node.{Node}
 use Rattle.up_strand.specs.declared.node.Part.{Part}
@@ -42,9 +42,13 @@ abbrev pub is_pipe : {K : Type 0} → Part K → Bool
 is_pipe (Pipe m) = true
 is_pipe part = false
 
+abbrev pub holds_sink : {K : Type 0} → Part K → Bool
+holds_sink (Sink sink spelling failed) = true
+holds_sink part = false
+
 -- a sink that failed
 abbrev pub has_failed : {K : Type 0} → Part K → Bool
-has_failed (Sink sink failed) = failed
+has_failed (Sink sink spelling failed) = failed
 has_failed part = false
 
 -- it can be given packets: its flow goes on, or it gives them up since memory ran out at it
@@ -71,12 +75,15 @@ pub record HasGivenUp {P K : Type 0} (old new : Node P K) : Type 0 where
   pub kept : is_outlet old.part ≡ true → new.out ≡ old.out
   pub settled : is_outlet old.part ≡ false → new.out.packets ≡ []
 
--- it has the same input and takers, and is an outlet or not as it was; a sink that failed is the same
+-- it has the same input and takers, and is an outlet or not as it was; a sink that failed is the
+-- same, and so is a sink at which memory ran out
 pub record IsAsPlaced {P K : Type 0} (old new : Node P K) : Type 0 where
   pub input : new.input ≡ old.input
   pub takers : new.takers ≡ old.takers
   pub outlet : is_outlet new.part ≡ is_outlet old.part
   pub stopped : has_failed old.part ≡ true → new.part ≡ old.part
+  pub fallen : old.short ≡ true → new.short ≡ true
+  pub still : old.short ≡ true → holds_sink new.part ≡ true → new.part ≡ old.part
 
 -- what is fixed of a node when its strand begins: the kind of its pipe, and the state of its sink,
 -- if it is one. An outlet is no pipe and has no kind.
@@ -108,9 +115,10 @@ module _ {P K : Type 0} (plain : P → PlainPacket) (state : K → SinkState) wh
   PartStands seat short Head fed = MatchOption seat.kind ⊥ (λ kind. is_source kind ≡ true)
   PartStands seat short (Pipe m) fed =
       (seat.kind ≡ Some (any_kind m)) × (short ≡ false → AnyStands m fed)
-  PartStands seat short (Sink sink failed) fed =
-      MatchOption seat.kind ⊥ IsRawSink
-      × Receives seat.start (state sink) (not short && not failed) (joined fed)
+  PartStands seat short (Sink sink spelling failed) fed =
+      MatchOption seat.kind ⊥ (IsSinkOf (form_of spelling))
+      × Receives seat.start (state sink) (not short && not failed)
+      (written_by (form_of spelling) fed)
       × CountsOnce failed seat.start.faults (state sink).faults
   PartStands seat short Outlet fed = seat.kind ≡ None
   PartStands seat short (Ended whole) fed = MatchOption seat.kind ⊥ (λ kind. has_module kind ≡ true)

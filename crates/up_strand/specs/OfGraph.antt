@@ -14,6 +14,7 @@ use Rattle.up_strand.specs.Nodes.{Seat, is_outlet, takes_from}
 use Rattle.up_strand.specs.Stand.{Past}
 use Rattle.up_strand.specs.declared.node.Node.{Node}
 use Rattle.up_strand.specs.declared.node.Part.TheVariants.{Sink}
+use Rattle.up_strand.specs.declared.spelling.Spelling.{Spelling}
 
 module _ (pipes : List Pipe) (places : ℕ → ℕ) where
   -- the pipe takes from the pipe of the node from which its own node takes; what the head of a
@@ -75,8 +76,9 @@ module _ (does : Doing) (pipes : List Pipe) (given : Feeding) where
           → is_outlet (slice_index_or nodes i d).part ≡ false
           → (slice_index_or nodes i d).out.tally
           ≡ stopped (pipe_work does pipes given (places i)).tally
-      pub sinks : (i : ℕ) (d : Node P K) (sink : K) (pipe : Pipe) → i < length nodes
-          → (slice_index_or nodes i d).part ≡ Sink sink false
+      pub sinks : (i : ℕ) (d : Node P K) (sink : K) (spelling : Spelling) (pipe : Pipe)
+          → i < length nodes
+          → (slice_index_or nodes i d).part ≡ Sink sink spelling false
           → slice_get pipes (places i) ≡ Some pipe
           → Appends (past.seats i).start.written (state sink).written
           (bytes_by does pipes given (places i) pipe)
@@ -95,8 +97,9 @@ module _ (does : Doing) (pipes : List Pipe) (given : Feeding) where
           → is_outlet (slice_index_or nodes i d).part ≡ false
           → IsAtMost (slice_index_or nodes i d).out.tally
           (stopped (pipe_work does pipes given (places i)).tally)
-      pub sinks : (i : ℕ) (d : Node P K) (sink : K) (failed : Bool) (pipe : Pipe) → i < length nodes
-          → (slice_index_or nodes i d).part ≡ Sink sink failed
+      pub sinks : (i : ℕ) (d : Node P K) (sink : K) (spelling : Spelling) (failed : Bool)
+          (pipe : Pipe) → i < length nodes
+          → (slice_index_or nodes i d).part ≡ Sink sink spelling failed
           → slice_get pipes (places i) ≡ Some pipe
           → (put : List ℕ) × Appends (past.seats i).start.written (state sink).written put
           × IsPrefix put (bytes_by does pipes given (places i) pipe)

@@ -5,10 +5,11 @@ use Rattle.std.specs.List.{position}
 use Rattle.std.specs.Option.{option_map_or, is_some}
 use Rattle.up_base.specs.Lists.{IsPrefix}
 use Rattle.up_model.specs.Meaning.{Doing, input_by, bytes_by}
-use Rattle.up_model.specs.Packet.{Flow, IsLegal}
+use Rattle.up_model.specs.Outcomes.{shown_of}
+use Rattle.up_model.specs.Packet.{Flow, IsLegal, count_with_bytes}
 use Rattle.up_model.specs.Plans.{sinks_of, strand_of}
 use Rattle.up_model.specs.Tallies.{IsAtMost}
-use Rattle.up_model.specs.declared.form.SourceForm.TheVariants.{Raw}
+use Rattle.up_model.specs.declared.form.SourceForm.TheVariants.{Raw, Framed}
 use Rattle.up_model.specs.declared.kind.Kind.TheVariants as kinds
 use Rattle.up_model.specs.declared.outcome.Outcome.{Outcome}
 use Rattle.up_model.specs.declared.outcome.Outcome.TheVariants as outcomes
@@ -26,6 +27,7 @@ use Rattle.up_strand.specs.History.{History, doing, end_by, head_flow, sums_at, 
 use Rattle.up_strand.specs.Reads.{WereRead}
 use Rattle.up_strand.specs.Strands.{StandsFor, ended_at_fault, place_of}
 use Rattle.up_strand.specs.Writing.{IsSameSink}
+use Rattle.up_strand.specs.declared.frame_source.TheConstants.{MAX_PIECE}
 use Rattle.up_strand.specs.declared.strand.Strand.{Strand}
 use Rattle.up_strand.specs.declared.strand_end.StrandEnd.{StrandEnd}
 use Rattle.up_strand.specs.declared.want.Want.{Want}
@@ -135,23 +137,42 @@ module _ {P S K : Type 0} (plain : P → PlainPacket) (reads : S → SourceState
       failed = failed;
     })
     pub stays : h.short ≡ true → short ≡ true
-    -- a sink that failed isn't written again
+    -- a sink that failed stays as it is
     pub stopped : (place : ℕ) → h.failed place ≡ true
         → (failed place ≡ true) × (sinks_now place ≡ h.sinks_now place)
+    -- once memory ran out, nothing is put out, and all sinks stay as they are
+    pub given_up : h.short ≡ true
+        → (fed ≡ []) × ((place : ℕ) → sinks_now place ≡ h.sinks_now place)
 
-  -- the source gave a packet's worth of bytes, or its flow ended; what was fed was drawn of the
-  -- store, and so was the room that was read into: without it nothing was read
+  -- a raw source gave at most a block, into room that was drawn of the store: without it nothing was
+  -- read
+  pub record StepsByBlock {F : Type 0} (size : ℕ) (old new : StoreState F) (read : List ℕ)
+      (ended : Option Outcome) : Type 0 where
+    pub moves : ended ≡ None → 0 < length read
+    pub block : length read ≤ size
+    pub room : ended ≢ Some outcomes.NoMemory → old.drawn < new.drawn
+    pub into : 0 < length read → old.drawn < new.drawn
+
+  -- a source of frames gave a piece of bytes, or a packet of them was put out
+  pub record StepsByFrame (read : List ℕ) (fed : Flow) : Type 0 where
+    pub piece : length read ≤ MAX_PIECE
+    pub either : (read ≡ []) ⊎ (fed ≡ [])
+
+  -- the source gave bytes, or a packet of them was put out, or its flow ended; for each packet with
+  -- bytes more was drawn of the store
   pub record SteppedRead {F : Type 0} (strand : Strand P S K) (h : History)
       (old new : StoreState F) : Type 0 where
     pub step : Stepped strand h []
-    pub moves : step.ended ≡ None → 0 < length step.read
+    pub moves : step.ended ≡ None → 0 < length step.read + length step.fed
     pub one : length step.fed ≤ 1
-    pub block : (pipe : Pipe) (path : List ℕ) (size limit : ℕ)
+    pub raw : (pipe : Pipe) (path : List ℕ) (size limit : ℕ)
         → slice_get h.pipes h.head ≡ Some pipe
-        → pipe.kind ≡ kinds.Source path (Raw size) limit → length step.read ≤ size
-    pub room : step.ended ≢ Some outcomes.NoMemory → old.drawn < new.drawn
-    pub into : 0 < length step.read → old.drawn < new.drawn
-    pub drawn : old.drawn + length step.fed ≤ new.drawn
+        → pipe.kind ≡ kinds.Source path (Raw size) limit
+        → StepsByBlock size old new step.read step.ended
+    pub framed : (pipe : Pipe) (path : List ℕ) (limit : ℕ)
+        → slice_get h.pipes h.head ≡ Some pipe
+        → pipe.kind ≡ kinds.Source path Framed limit → StepsByFrame step.read step.fed
+    pub drawn : old.drawn + count_with_bytes step.fed ≤ new.drawn
 
   -- the item came through the lane of the head
   pub record SteppedItem (strand : Strand P S K) (h : History) (item : Item P) : Type 0 where
@@ -192,6 +213,11 @@ module _ (h : History) (place : ℕ) (pipe : Pipe) where
     pub left : h.sinks_now place ≡ now
     pub same : IsSameSink (h.sinks place) now
 
+-- what the bytes that the source gave show, whatever comes behind them
+abbrev pub shown_at_head : History → Option Outcome
+shown_at_head h =
+    option_and_then (λ pipe. shown_of pipe.kind h.read) (slice_get h.pipes h.head)
+
 -- the source gave the bytes that were read; one read of it failed at most, and it is as the last
 -- step left it
 pub record SourceEnds (h : History) (now : SourceState) : Type 0 where
@@ -202,6 +228,9 @@ pub record SourceEnds (h : History) (now : SourceState) : Type 0 where
   pub once : now.faults ≤ start.faults + 1
   pub left : h.source_now ≡ Some now
   pub whole : h.ended ≡ Some outcomes.Whole → IsAtEnd now.left
+  -- what isn't shown by the bytes whatever comes behind them is told where nothing does
+  pub settled : (offset : ℕ) → h.ended ≡ Some (outcomes.BadFrame offset)
+      → (shown_at_head h ≡ Some (outcomes.BadFrame offset)) ⊎ IsAtEnd now.left
 
 module _ {S K : Type 0} (reads : S → SourceState) (writes : K → SinkState) where
   -- what is left of a strand that did what the history says, and was done or not

@@ -1,13 +1,15 @@
 -- What a strand stands for: what it did since it was made.
-use Rattle.std.specs.Prelude.{◌≡◌, ℕ, ◌+◌, ◌*◌, ◌<◌, ◌≤◌, ◌==◌, ◌++◌, ◌&&◌, ◌||◌, List, [], length, map, slice_get, slice_index_or, Bool, true, false, not, is_some, Option, Some, None, MatchOption, nat_le, nat_lt, option_and_then, if◌then◌else◌}
+use Rattle.std.specs.Prelude.{◌≡◌, ◌⊎◌, ℕ, ◌+◌, ◌*◌, ◌<◌, ◌≤◌, ◌==◌, ◌++◌, ◌&&◌, ◌||◌, List, [], length, map, slice_get, slice_index_or, Bool, true, false, not, is_some, Option, Some, None, MatchOption, nat_le, nat_lt, option_and_then, if◌then◌else◌}
 use Rattle.std.specs.List.{Contains, range_with_len, position}
 use Rattle.std.specs.Option.{option_map_or, option_to_list}
 use Rattle.std.specs.Io.KnownBytes.{IsAtEnd}
 use Rattle.up_base.specs.Lists.{IsPrefix}
 use Rattle.up_model.specs.Inputs.{input_at, passes_at}
+use Rattle.up_model.specs.Outcomes.{settled_packets_of, shown_by, source_outcome}
 use Rattle.up_model.specs.Plans.{heads, is_fed, outlets_of, sinks_of, strand_of}
 use Rattle.up_model.specs.WellFormed.{IsWellFormed}
-use Rattle.up_model.specs.declared.form.SourceForm.TheVariants.{Raw}
+use Rattle.up_model.specs.declared.form.SourceForm.{SourceForm}
+use Rattle.up_model.specs.declared.form.SourceForm.TheVariants.{Raw, Framed}
 use Rattle.up_model.specs.declared.kind.Kind.TheVariants as kinds
 use Rattle.up_model.specs.declared.limits.TheConstants.{MAX_LIMIT, MAX_PACKET}
 use Rattle.up_model.specs.declared.outcome.Outcome.{Outcome}
@@ -16,6 +18,7 @@ use Rattle.up_model.specs.declared.pipe.Pipe.{Pipe}
 use Rattle.up_model.specs.declared.plain_packet.PlainPacket.{PlainPacket}
 use Rattle.up_outside.specs.Counts.{CountsOnce}
 use Rattle.up_outside.specs.States.{SourceState, SinkState}
+use Rattle.up_strand.specs.Frames.{Unframes}
 use Rattle.up_strand.specs.Gifts.{NodesFit}
 use Rattle.up_strand.specs.History.{History, head_flow, outcome_of_source, outcome_without}
 use Rattle.up_strand.specs.Nodes.{has_failed, is_outlet}
@@ -24,11 +27,13 @@ use Rattle.up_strand.specs.Reads.{WereRead}
 use Rattle.up_strand.specs.Rooms.{HasOnlyRoom}
 use Rattle.up_strand.specs.Stand.{NodesAre, Past, Stand}
 use Rattle.up_strand.specs.Tree.{IsSwept}
+use Rattle.up_strand.specs.declared.frame_source.FrameSource.{FrameSource}
 use Rattle.up_strand.specs.declared.intake.Intake.{Intake}
-use Rattle.up_strand.specs.declared.intake.Intake.TheVariants.{FromSource, FromLane}
+use Rattle.up_strand.specs.declared.intake.Intake.TheVariants.{FromSource, FromFrames, FromLane}
 use Rattle.up_strand.specs.declared.node.Node.{Node}
 use Rattle.up_strand.specs.declared.node.Part.{Part}
 use Rattle.up_strand.specs.declared.node.Part.TheVariants.{Head, Pipe as PipePart, Sink, Outlet, Ended}
+use Rattle.up_strand.specs.declared.spelling.Spelling.{Spelling}
 use Rattle.up_strand.specs.declared.strand.Strand.{Strand}
 use Rattle.up_strand.specs.declared.want.Want.{Want}
 use Rattle.up_strand.specs.declared.want.Want.TheVariants.{Read, Input, Output, Done}
@@ -36,11 +41,22 @@ use Rattle.up_strand.specs.declared.want.Want.TheVariants.{Read, Input, Output, 
 -- the outcome of a pipe that does this part
 abbrev pub outcome_of_part : {K : Type 0} → Part K → Bool → Option Outcome → Outcome
 outcome_of_part Head short ended = outcome_of_source short ended
-outcome_of_part (Sink sink true) short ended = outcomes.WriteFault
-outcome_of_part (Sink sink false) short ended = outcome_without short ended
+outcome_of_part (Sink sink spelling true) short ended = outcomes.WriteFault
+outcome_of_part (Sink sink spelling false) short ended = outcome_without short ended
 outcome_of_part (PipePart m) short ended = outcome_without short ended
 outcome_of_part Outlet short ended = outcome_without short ended
 outcome_of_part (Ended whole) short ended = outcome_without short ended
+
+-- its packets are blocks of a source, or those of its frames
+abbrev pub cuts_blocks : {S : Type 0} → Intake S → Bool
+cuts_blocks (FromSource source block limit left) = true
+cuts_blocks (FromFrames frames) = false
+cuts_blocks FromLane = false
+
+abbrev pub unframes : {S : Type 0} → Intake S → Bool
+unframes (FromSource source block limit left) = false
+unframes (FromFrames frames) = true
+unframes FromLane = false
 
 module _ {P S K : Type 0} (strand : Strand P S K) where
   -- the place of the pipe at a node, or of the head of the lane that ends there
@@ -73,6 +89,7 @@ module _ {P S K : Type 0} (strand : Strand P S K) where
 
   abbrev pub wants_in : Intake S → Want
   wants_in (FromSource source block limit left) = Read
+  wants_in (FromFrames frames) = Read
   wants_in FromLane = Input
 
   -- items go out before anything comes in; after the end of its flow nothing does
@@ -152,13 +169,13 @@ module _ {P S K : Type 0} (strand : Strand P S K) where
 
   -- the sinks are those that it was made with, and what they tell and which failed is known
   pub record IsWriting (writes : K → SinkState) (h : History) (past : Past) : Type 0 where
-    pub starts : (i : ℕ) (d : Node P K) (sink : K) (failed : Bool)
+    pub starts : (i : ℕ) (d : Node P K) (sink : K) (spelling : Spelling) (failed : Bool)
         → i < length strand.tree.nodes.items
-        → (slice_index_or strand.tree.nodes.items i d).part ≡ Sink sink failed
+        → (slice_index_or strand.tree.nodes.items i d).part ≡ Sink sink spelling failed
         → (past.seats i).start ≡ h.sinks (place_of i)
-    pub now : (i : ℕ) (d : Node P K) (sink : K) (failed : Bool)
+    pub now : (i : ℕ) (d : Node P K) (sink : K) (spelling : Spelling) (failed : Bool)
         → i < length strand.tree.nodes.items
-        → (slice_index_or strand.tree.nodes.items i d).part ≡ Sink sink failed
+        → (slice_index_or strand.tree.nodes.items i d).part ≡ Sink sink spelling failed
         → h.sinks_now (place_of i) ≡ writes sink
     pub failed : (place : ℕ) → h.failed place ≡ has_failed_at place
 
@@ -168,39 +185,64 @@ ended_at_fault None = false
 ended_at_fault (Some outcomes.Whole) = false
 ended_at_fault (Some outcomes.ReadFault) = true
 ended_at_fault (Some outcomes.WriteFault) = false
+ended_at_fault (Some (outcomes.BadFrame offset)) = false
 ended_at_fault (Some (outcomes.TooLong limit)) = false
 ended_at_fault (Some outcomes.Broken) = false
 ended_at_fault (Some outcomes.NoMemory) = false
 
--- how much of a source was read, by how it ended: at most one byte past its limit. Where a cause of
--- its own ended it, memory hadn't run out
-abbrev pub EndsRightly : ℕ → Option (List ℕ) → History → Option Outcome → Type 0
-EndsRightly limit rest h None = (h.short ≡ false) × (length h.read ≤ limit)
-EndsRightly limit rest h (Some outcomes.Whole) = (length h.read ≤ limit) × IsAtEnd rest
-EndsRightly limit rest h (Some outcomes.ReadFault) = (h.short ≡ false) × (length h.read ≤ limit)
-EndsRightly limit rest h (Some outcomes.WriteFault) = ⊥
-EndsRightly limit rest h (Some (outcomes.TooLong most)) =
-    (h.short ≡ false) × (most ≡ limit) × (length h.read ≡ limit + 1)
-EndsRightly limit rest h (Some outcomes.Broken) = ⊥
-EndsRightly limit rest h (Some outcomes.NoMemory) = (h.short ≡ true) × (length h.read ≤ limit + 1)
+-- the outcome is that of the bytes that were read: they show it whatever comes behind them, or nothing does. At most one byte past
+-- the limit was read, and memory hadn't run out
+pub record IsTold (form : SourceForm) (limit : ℕ) (rest : Option (List ℕ)) (h : History)
+    (outcome : Outcome) : Type 0 where
+  pub long : h.short ≡ false
+  pub few : length h.read ≤ limit + 1
+  pub is : source_outcome form limit h.read ≡ outcome
+  pub settled : (shown_by form limit h.read ≡ Some outcome) ⊎ IsAtEnd rest
 
--- the source of the head, which has these bounds, gave the bytes that were read
-pub record IsReading (now : SourceState) (block limit left : ℕ) (h : History) : Type 0 where
+-- how a source of the form ended, by the bytes that were read. Where a cause of its own ended it, memory hadn't run out
+abbrev pub EndsRightly : SourceForm → ℕ → Option (List ℕ) → History → Option Outcome → Type 0
+EndsRightly form limit rest h None = (h.short ≡ false) × (length h.read ≤ limit + 1)
+EndsRightly form limit rest h (Some outcomes.Whole) =
+    (source_outcome form limit h.read ≡ outcomes.Whole) × IsAtEnd rest
+EndsRightly form limit rest h (Some outcomes.ReadFault) =
+    (h.short ≡ false) × (shown_by form limit h.read ≡ None)
+EndsRightly form limit rest h (Some outcomes.WriteFault) = ⊥
+EndsRightly form limit rest h (Some (outcomes.BadFrame offset)) =
+    IsTold form limit rest h (outcomes.BadFrame offset)
+EndsRightly form limit rest h (Some (outcomes.TooLong most)) =
+    IsTold form limit rest h (outcomes.TooLong most)
+EndsRightly form limit rest h (Some outcomes.Broken) = ⊥
+EndsRightly form limit rest h (Some outcomes.NoMemory) =
+    (h.short ≡ true) × (length h.read ≤ limit + 1)
+
+-- the source of the head, which has the form and the limit, gave the bytes that were read
+pub record IsReading (now : SourceState) (form : SourceForm) (limit : ℕ) (h : History) : Type 0 where
   pub pipe : Pipe
   pub there : slice_get h.pipes h.head ≡ Some pipe
   pub path : List ℕ
-  pub kind : pipe.kind ≡ kinds.Source path (Raw block) limit
+  pub kind : pipe.kind ≡ kinds.Source path form limit
   pub start : SourceState
   pub told : h.source ≡ Some start
   pub told_now : h.source_now ≡ Some now
   pub took : WereRead start now h.read (length h.read)
   pub faults : CountsOnce (ended_at_fault h.ended) start.faults now.faults
-  pub ends : EndsRightly limit now.left h h.ended
+  pub ends : EndsRightly form limit now.left h h.ended
+  pub in_limit : limit ≤ MAX_LIMIT
+  pub alone : h.came ≡ []
+
+-- its blocks were put out, and while its flow goes on nothing else was read
+pub record IsCutting (now : SourceState) (block limit left : ℕ) (h : History) : Type 0 where
+  pub reading : IsReading now (Raw block) limit h
+  pub put : h.ended ≡ None → h.fed ≡ settled_packets_of (Raw block) h.read
   pub rest : h.ended ≡ None → length h.read + left ≡ limit
   pub even : h.ended ≡ None → (count : ℕ) × (length h.read ≡ count * block)
   pub in_block : (0 < block) × (block ≤ MAX_PACKET)
-  pub in_limit : limit ≤ MAX_LIMIT
-  pub alone : h.came ≡ []
+
+-- its frames were read, and while its flow goes on their packets were put out one after the other
+pub record IsUnframing {S : Type 0} (now : SourceState) (frames : FrameSource S) (h : History)
+    : Type 0 where
+  pub reading : IsReading now Framed frames.limit h
+  pub stands : h.ended ≡ None → Unframes frames h.read h.fed
 
 -- a lane's flow ends whole or broken
 abbrev pub IsEndOfLane : Option Outcome → Type 0
@@ -208,6 +250,7 @@ IsEndOfLane None = Unit {0}
 IsEndOfLane (Some outcomes.Whole) = Unit {0}
 IsEndOfLane (Some outcomes.ReadFault) = ⊥
 IsEndOfLane (Some outcomes.WriteFault) = ⊥
+IsEndOfLane (Some (outcomes.BadFrame offset)) = ⊥
 IsEndOfLane (Some (outcomes.TooLong limit)) = ⊥
 IsEndOfLane (Some outcomes.Broken) = Unit {0}
 IsEndOfLane (Some outcomes.NoMemory) = ⊥
@@ -222,7 +265,9 @@ pub record IsBehindLane (h : History) : Type 0 where
 
 abbrev pub IntakeStands : {S : Type 0} → (S → SourceState) → Intake S → History → Type 0
 IntakeStands reads (FromSource source block limit left) h =
-    IsReading (reads source) block limit left h
+    IsCutting (reads source) block limit left h
+IntakeStands reads (FromFrames frames) h =
+    IsUnframing (reads frames.source) frames h
 IntakeStands reads FromLane h = IsBehindLane h
 
 -- the head was fed the packets that it had, or the first of them where memory ran out

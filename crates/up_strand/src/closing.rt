@@ -2,10 +2,10 @@
 ghost use Rattle.std.specs.Prelude.{◌≡◌, ◌<◌, ◌≤◌, ◌+◌, ◌++◌, ◌∷◌, [], false, true, length, IfOk, MatchOption, None};
 ghost use Rattle.up_model.specs.Tallies.{uncaught};
 ghost use Rattle.up_shape.specs.Stores.{Stays};
-ghost use Rattle.up_strand.specs.Closing.{AreTold, AreWithoutSinks, HasNone, HasRoomsFor, HasSameRooms, holds_sink, outcome_at, sinks_in};
+ghost use Rattle.up_strand.specs.Closing.{AreTold, AreWithoutSinks, HasNone, HasRoomsFor, HasSameRooms, outcome_at, sinks_in};
 ghost use Rattle.up_strand.specs.Gifts.{NodesFit};
 ghost use Rattle.up_strand.specs.History.{History};
-ghost use Rattle.up_strand.specs.Nodes.{NodeFits};
+ghost use Rattle.up_strand.specs.Nodes.{NodeFits, holds_sink};
 ghost use Rattle.up_strand.specs.Rooms.{HasOnlyRoom};
 ghost use Rattle.up_strand.specs.StrandCalls.{Finished, SourceEnds, is_done};
 ghost use Rattle.up_strand.specs.Strands.{IntakeStands, StandsFor, StandsForSome, StrandFits, want_of};
@@ -86,7 +86,11 @@ impl<P: LocalPacket, K: Sink> Node<P, K> {
         ensures out { self.new.out ≡ self.old.out }
     {
         match mem::replace(&mut self.part, Part::Ended { whole: false }) {
-            Part::Sink { sink, failed: _ } => sinks.push(sink),
+            Part::Sink {
+                sink,
+                spelling: _,
+                failed: _,
+            } => sinks.push(sink),
             other => give_back(&mut self.part, other),
         }
     }
@@ -207,6 +211,7 @@ fn source_of<S: Source>(intake: Intake<S>) -> Option<S>
             limit: _,
             left: _,
         } => Some(source),
+        Intake::FromFrames(frames) => Some(frames.into_source()),
         Intake::FromLane => None,
     }
 }

@@ -3,6 +3,7 @@ ghost use Rattle.std.specs.Prelude.{◌≡◌, [], Some, None, false};
 use crate::any_module::AnyModule;
 use crate::giving::give;
 use crate::node::{Node, Part, Takers};
+use crate::spelling::Spelling;
 use std::alloc::Global;
 use std::process::Abort;
 use up_base::NoMemory;
@@ -75,7 +76,11 @@ fn assert_node(
     } = node;
     assert_waits(rt, out, waits, s);
     match part {
-        Part::Sink { sink, failed: _ } => assert_eq!(rt; Some(sink.bytes()), written),
+        Part::Sink {
+            sink,
+            spelling: _,
+            failed: _,
+        } => assert_eq!(rt; Some(sink.bytes()), written),
         Part::Pipe(m) => <AnyModule as Module<TrialPacket>>::give_up(m, s),
         Part::Head => assert_eq!(rt; written, None),
         Part::Outlet => assert_eq!(rt; written, None),
@@ -100,6 +105,7 @@ fn give_to_four(
             alloc,
             Part::Sink {
                 sink: one,
+                spelling: Spelling::Raw,
                 failed: false,
             },
         ),
@@ -108,6 +114,7 @@ fn give_to_four(
             alloc,
             Part::Sink {
                 sink: two,
+                spelling: Spelling::Raw,
                 failed: false,
             },
         ),

@@ -6,7 +6,7 @@ ghost use Rattle.up_base.specs.Lists.{IsPrefix};
 ghost use Rattle.up_model.specs.Ends.{is_source};
 ghost use Rattle.up_model.specs.Inputs.{ends_at_source, passes_at, reached};
 ghost use Rattle.up_model.specs.Meaning.{is_fed_by};
-ghost use Rattle.up_model.specs.Outcomes.{is_cause, own_outcome};
+ghost use Rattle.up_model.specs.Outcomes.{is_cause, own_outcome, settled_source_flow, shown_of};
 ghost use Rattle.up_model.specs.Packet.{Flow};
 ghost use Rattle.up_model.specs.Plans.{is_fed, outlets_of, strand_of};
 ghost use Rattle.up_model.specs.declared.form.SourceForm.{SourceForm as TheForm};
@@ -24,8 +24,9 @@ use up_shape::LocalPacket;
 
 /// The head of a strand was fed the packets that it had; where memory ran out, the first of them.
 /// How a source ended is told by its bytes, and by whether a read failed; at most one byte past its
-/// limit was read, and none where a read failed. Where a source ended by a cause of its own, memory
-/// hadn't run out.
+/// limit was read, and none where a read failed, which is told only where the bytes show no other
+/// cause. While a source goes on it put out packets that its bytes hold whatever comes behind them,
+/// no more than bytes. Where a source ended by a cause of its own, memory hadn't run out.
 pub fn a_head_is_fed_what_it_has<P: LocalPacket, S: Source, K: Sink>()
     ensures first { (strand : TheStrand P S K) (h : History)
         → StandsFor P.plain S.state K.state strand h → IsPrefix h.fed (head_flow h) }
@@ -46,6 +47,17 @@ pub fn a_head_is_fed_what_it_has<P: LocalPacket, S: Source, K: Sink>()
         → StandsFor P.plain S.state K.state strand h → slice_get h.pipes h.head ≡ Some pipe
         → pipe.kind ≡ kinds.Source path form limit → ended_at_fault h.ended ≡ true
         → length h.read ≤ limit }
+    ensures unshown { (strand : TheStrand P S K) (h : History) (pipe : ThePipe)
+        → StandsFor P.plain S.state K.state strand h → slice_get h.pipes h.head ≡ Some pipe
+        → ended_at_fault h.ended ≡ true → shown_of pipe.kind h.read ≡ None }
+    ensures settled { (strand : TheStrand P S K) (h : History) (pipe : ThePipe)
+        → StandsFor P.plain S.state K.state strand h → slice_get h.pipes h.head ≡ Some pipe
+        → is_source pipe.kind ≡ true → h.ended ≡ None
+        → IsPrefix h.fed (settled_source_flow pipe.kind h.read) }
+    ensures few { (strand : TheStrand P S K) (h : History) (pipe : ThePipe)
+        (path : List ℕ) (form : TheForm) (limit : ℕ)
+        → StandsFor P.plain S.state K.state strand h → slice_get h.pipes h.head ≡ Some pipe
+        → pipe.kind ≡ kinds.Source path form limit → length h.fed ≤ limit + 1 }
     ensures long { (strand : TheStrand P S K) (h : History) (pipe : ThePipe)
         (outcome : TheOutcome) → StandsFor P.plain S.state K.state strand h
         → slice_get h.pipes h.head ≡ Some pipe → is_source pipe.kind ≡ true

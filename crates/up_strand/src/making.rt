@@ -16,12 +16,15 @@ ghost use Rattle.up_strand.specs.StrandCalls.{begun, sinks_told, told_of};
 ghost use Rattle.up_strand.specs.Strands.{IntakeStands, StandsFor, StrandFits};
 ghost use Rattle.up_strand.specs.Values.{value_at, value_of_kind};
 ghost use Rattle.up_strand.specs.declared.node.Part.TheVariants as parts;
+ghost use Rattle.up_strand.specs.declared.spelling.Spelling.{Spelling as TheSpelling};
 
 use crate::any_module::AnyModule;
 use crate::closing::Told;
+use crate::frame_source::FrameSource;
 use crate::intake::Intake;
 use crate::node::{Node, Part};
 use crate::shape::Shape;
+use crate::spelling::Spelling;
 use crate::strand::Strand;
 use crate::strand_end::{SinkList, StrandParts};
 use crate::tree::Tree;
@@ -201,7 +204,7 @@ impl<P: LocalPacket, K: Sink> Rooms<P, K> {
             places,
             caught,
             closed,
-            intake: intake_of(&graph.pipes, head, source),
+            intake: intake_of(alloc, &graph.pipes, head, source),
             ended: None,
             kept: None,
             last: None,
@@ -212,6 +215,7 @@ impl<P: LocalPacket, K: Sink> Rooms<P, K> {
 
 /// What the pipe of a kind does, whose module owns this value; a sink is the next of the strand's.
 fn part_of<P: LocalPacket, K: Sink>(
+    alloc: Global,
     kind: &Kind,
     value: Option<Value>,
     sinks: &mut SinkList<K>,
@@ -224,8 +228,9 @@ fn part_of<P: LocalPacket, K: Sink>(
         → (is_sink kind.now ≡ true
         → (d : K) → seat.start ≡ K.state (slice_index_or sinks.old 0 d))
         → PartStands P.plain K.state seat false result [] }
-    ensures sink { (sink : K) (failed : Bool) → result ≡ parts.Sink sink failed
-        → (is_sink kind.now ≡ true) × ((d : K) → slice_index_or sinks.old 0 d ≡ sink) }
+    ensures sink { (sink : K) (spelling : TheSpelling) (failed : Bool)
+        → result ≡ parts.Sink sink spelling failed → (is_sink kind.now ≡ true)
+        × ((d : K) → slice_index_or sinks.old 0 d ≡ sink) }
     ensures inner { is_outlet result ≡ false }
     ensures going { has_ended result ≡ false }
     ensures works { has_failed result ≡ false }
@@ -233,10 +238,11 @@ fn part_of<P: LocalPacket, K: Sink>(
     if kind.is_source() {
         return Part::Head;
     }
-    if kind.is_sink() {
+    if let Kind::Sink { path: _, form } = kind {
         return match sinks.next() {
             Some(sink) => Part::Sink {
                 sink,
+                spelling: Spelling::of(alloc, *form),
                 failed: false,
             },
             None => unreachable!(),
@@ -250,6 +256,7 @@ fn part_of<P: LocalPacket, K: Sink>(
 
 /// What the node at a place does, whose module owns this value; a sink is the next of the strand's.
 fn part_at<P: LocalPacket, K: Sink>(
+    alloc: Global,
     pipes: &PipeList,
     shape: &Shape,
     i: usize,
@@ -267,15 +274,16 @@ fn part_at<P: LocalPacket, K: Sink>(
         → (is_sink_in pipes.now shape.now i ≡ true → (d : K)
         → (seat_in pipes.now shape.now told i).start ≡ K.state (slice_index_or sinks.old 0 d))
         → PartStands P.plain K.state (seat_in pipes.now shape.now told i) false result [] }
-    ensures sink { (sink : K) (failed : Bool) → result ≡ parts.Sink sink failed
-        → (is_sink_in pipes.now shape.now i ≡ true)
+    ensures sink { (sink : K) (spelling : TheSpelling) (failed : Bool)
+        → result ≡ parts.Sink sink spelling failed → (is_sink_in pipes.now shape.now i ≡ true)
         × ((d : K) → slice_index_or sinks.old 0 d ≡ sink) }
     ensures outlet { is_outlet result ≡ nat_le shape.now.pipes i }
     ensures going { has_ended result ≡ false }
     ensures works { has_failed result ≡ false }
 {
     if i < shape.pipes {
-        part_of::<P, K>(&pipes.at(usize::from(shape.places[i])).kind, value, sinks)
+        let kind = &pipes.at(usize::from(shape.places[i])).kind;
+        part_of::<P, K>(alloc, kind, value, sinks)
     } else {
         Part::Outlet
     }
@@ -303,7 +311,7 @@ fn nodes_of<P: LocalPacket, K: Sink>(
 {
     for i in 0..shape.places.len() {
         let value = next_value(&mut values);
-        let part = part_at::<P, K>(pipes, shape, i, value, &mut sinks);
+        let part = part_at::<P, K>(alloc, pipes, shape, i, value, &mut sinks);
         nodes.push_reserved(Node::new(alloc, shape.inputs[i], shape.takers[i], part));
     }
     sinks.end();
@@ -311,7 +319,7 @@ fn nodes_of<P: LocalPacket, K: Sink>(
 }
 
 /// Where the packets of the head come from.
-fn intake_of<S: Source>(pipes: &PipeList, head: u16, source: Option<S>) -> Intake<S>
+fn intake_of<S: Source>(alloc: Global, pipes: &PipeList, head: u16, source: Option<S>) -> Intake<S>
     requires well_formed { IsWellFormed pipes.now }
     requires head { head < length pipes.now }
     requires source { is_some source ≡ passes_at ends_at_source pipes.now head }
@@ -332,6 +340,14 @@ fn intake_of<S: Source>(pipes: &PipeList, head: u16, source: Option<S>) -> Intak
             limit: *limit,
             left: *limit,
         },
+        (
+            Some(source),
+            Kind::Source {
+                form: SourceForm::Framed,
+                limit,
+                ..
+            },
+        ) => Intake::FromFrames(FrameSource::of(alloc, source, *limit)),
         (Some(_), _) => unreachable!(),
         (None, _) => Intake::FromLane,
     }

@@ -1,15 +1,18 @@
 // The nodes of a strand: its head, and the pipes, sinks and outlets that take what others put out.
 ghost use Rattle.std.specs.Prelude.{◌≡◌, ◌++◌, All, [], ◌∷◌, not, ◌&&◌, true, false, ℕ, List, is_ok, IfSome, OnOk, OnErr};
+ghost use Rattle.up_model.specs.Ends.{written_by};
 ghost use Rattle.up_model.specs.Kinds.{IsWithinBounds};
 ghost use Rattle.up_model.specs.Packet.{IsLegal};
 ghost use Rattle.up_outside.specs.Counts.{CountsOnce};
 ghost use Rattle.up_outside.specs.States.{SinkState};
 ghost use Rattle.up_shape.specs.Stores.{Stays};
 ghost use Rattle.up_strand.specs.Nodes.{Seat, PartStands, NodeStands, IsTaking, IsSound, IsDone, HasGivenUp, IsAsPlaced, NodeFits, Took, has_ended, is_outlet, is_pipe, is_whole, takes_from};
+ghost use Rattle.up_strand.specs.Spellings.{form_of};
 ghost use Rattle.up_strand.specs.Writing.{Receives};
 
 use crate::any_module::AnyModule;
 use crate::sink_packet::write_packet;
+use crate::spelling::Spelling;
 use std::alloc::Global;
 use std::mem;
 use up_base::{NoMemory, Refusal};
@@ -24,11 +27,17 @@ pub enum Part<K> {
     /// A pipe whose flow goes on.
     Pipe(AnyModule),
     /// A sink. One that failed, whose count of faults rose, gives up what it takes.
-    Sink { sink: K, failed: bool },
+    Sink {
+        sink: K,
+        spelling: Spelling,
+        failed: bool,
+    },
     /// The end of a lane: what it puts out is left there for another strand.
     Outlet,
     /// A pipe whose module is gone. `whole` says that its flow came to its whole end.
-    Ended { whole: bool },
+    Ended {
+        whole: bool,
+    },
 }
 
 /// The first and the last of the nodes that take from a node, by their places.
@@ -128,17 +137,16 @@ impl<P: LocalPacket, K: Sink> Node<P, K> {
                     Err(NoMemory)
                 }
             },
-            Part::Sink { sink, failed } => {
-                let written = write_unless_failed(&p, sink, failed);
+            Part::Sink {
+                sink,
+                spelling,
+                failed,
+            } => {
+                let written = write_unless_failed(&p, sink, spelling, failed);
                 p.give_up(s);
                 self.out.add_tally(of_sink());
-                match written {
-                    Ok(()) => Ok(()),
-                    Err(NoMemory) => {
-                        self.short = true;
-                        Err(NoMemory)
-                    }
-                }
+                self.short = written.is_err();
+                written
             }
             Part::Head => match put_out(p, &mut self.out, s) {
                 Ok(()) => {
@@ -287,20 +295,24 @@ pub(crate) fn give_up_waiting<P: LocalPacket>(out: &mut Outbox<P>, s: &mut P::St
 fn write_unless_failed<P: LocalPacket, K: Sink>(
     p: &P,
     sink: &mut K,
+    spelling: &mut Spelling,
     failed: &mut bool,
 ) -> Result<(), NoMemory>
+    requires legal { IsLegal (P.plain p.now) }
     ensures bytes { (start : SinkState) (before : List ℕ)
         → Receives start (K.state sink.old) (not failed.old) before
         → Receives start (K.state sink.new) (is_ok result && not failed.new)
-        (before ++ (P.plain p.now).bytes) }
+        (before ++ written_by (form_of spelling.old) (P.plain p.now ∷ [])) }
+    ensures form { form_of spelling.new ≡ form_of spelling.old }
     ensures faults { (before : ℕ) → CountsOnce failed.old before (K.state sink.old).faults
         → CountsOnce failed.new before (K.state sink.new).faults }
-    ensures stopped { failed.old ≡ true → (failed.new ≡ true) × (sink.new ≡ sink.old) }
+    ensures stopped { failed.old ≡ true
+        → (failed.new ≡ true) × (sink.new ≡ sink.old) × (spelling.new ≡ spelling.old) }
 {
     if *failed {
         return Ok(());
     }
-    match write_packet(p, sink) {
+    match write_packet(p, sink, spelling) {
         Ok(()) => Ok(()),
         Err(Refusal::Failed) => {
             *failed = true;

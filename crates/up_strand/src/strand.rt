@@ -7,10 +7,11 @@ ghost use Rattle.up_shape.specs.Stores.{Stays};
 ghost use Rattle.up_strand.specs.History.{History, told_at};
 ghost use Rattle.up_strand.specs.Steps.{IsGoing, OnceLooked, WentOn, ended_where, taken_where};
 ghost use Rattle.up_strand.specs.StrandCalls.{CameOut, IsLegalItem, ItemFits, SteppedItem, SteppedRead, WentOut, gave_out, lane_given};
-ghost use Rattle.up_strand.specs.Strands.{StandsFor, StandsForSome, StrandFits, node_of, want_of};
+ghost use Rattle.up_strand.specs.Strands.{StandsFor, StandsForSome, StrandFits, cuts_blocks, node_of, unframes, want_of};
 ghost use Rattle.up_strand.specs.declared.want.Want.TheVariants as wants;
 
 use crate::closing::Told;
+use crate::frame_source::NextFrame;
 use crate::intake::Intake;
 use crate::outcomes::outcome_of;
 use crate::source_packet::{Next, read_packet};
@@ -59,6 +60,7 @@ impl<P: LocalPacket, S: Source, K: Sink> Strand<P, S, K> {
         match (self.ended, &self.intake) {
             (Some(_), _) => Want::Done,
             (None, Intake::FromSource { .. }) => Want::Read,
+            (None, Intake::FromFrames(_)) => Want::Read,
             (None, Intake::FromLane) => Want::Input,
         }
     }
@@ -133,6 +135,28 @@ impl<P: LocalPacket, S: Source, K: Sink> Strand<P, S, K> {
         ensures family { StrandFits self.new P.fits (P.Store.state s.old).family }
         ensures store { Stays (P.Store.state s.old) (P.Store.state s.new) }
     {
+        match &self.intake {
+            Intake::FromSource { .. } => self.take_block(s),
+            Intake::FromFrames(_) => self.take_frame(s),
+            Intake::FromLane => unreachable!(),
+        }
+    }
+
+    /// Feeds the next block of a raw source.
+    fn take_block(&mut self, s: &mut P::Store)
+        requires stands { StandsForSome P.plain S.state K.state self.old }
+        requires want { want_of self.old ≡ wants.Read }
+        requires raw { cuts_blocks self.old.intake ≡ true }
+        requires family { StrandFits self.old P.fits (P.Store.state s.old).family }
+        ensures stepped { OnceLooked self.new (λ strand. (h : History)
+            → StandsFor P.plain S.state K.state self.old h
+            → SteppedRead P.plain S.state K.state strand h
+            (P.Store.state s.old) (P.Store.state s.new)) }
+        ensures kept { self.new.kept ≡ None }
+        ensures closed { length self.new.closed.items ≡ length self.new.tree.nodes.items }
+        ensures family { StrandFits self.new P.fits (P.Store.state s.old).family }
+        ensures store { Stays (P.Store.state s.old) (P.Store.state s.new) }
+    {
         let Intake::FromSource {
             source,
             block,
@@ -146,7 +170,7 @@ impl<P: LocalPacket, S: Source, K: Sink> Strand<P, S, K> {
         match read_packet(source, *block, *left, s) {
             Next::Packet(p) => {
                 *left -= u64::from(*block);
-                self.feed_block(p, s);
+                self.feed_next(p, s);
             }
             Next::Last(p) => self.feed_last(p, s),
             Next::End => self.end(Outcome::Whole, s),
@@ -154,6 +178,32 @@ impl<P: LocalPacket, S: Source, K: Sink> Strand<P, S, K> {
             Next::TooLong => self.end(Outcome::TooLong { limit }, s),
             Next::NoMemory => self.run_short(s),
             Next::NoRoom => self.run_short(s),
+        }
+    }
+
+    /// Feeds the next packet of a source of frames, or reads a piece of it.
+    fn take_frame(&mut self, s: &mut P::Store)
+        requires stands { StandsForSome P.plain S.state K.state self.old }
+        requires want { want_of self.old ≡ wants.Read }
+        requires framed { unframes self.old.intake ≡ true }
+        requires family { StrandFits self.old P.fits (P.Store.state s.old).family }
+        ensures stepped { OnceLooked self.new (λ strand. (h : History)
+            → StandsFor P.plain S.state K.state self.old h
+            → SteppedRead P.plain S.state K.state strand h
+            (P.Store.state s.old) (P.Store.state s.new)) }
+        ensures kept { self.new.kept ≡ None }
+        ensures closed { length self.new.closed.items ≡ length self.new.tree.nodes.items }
+        ensures family { StrandFits self.new P.fits (P.Store.state s.old).family }
+        ensures store { Stays (P.Store.state s.old) (P.Store.state s.new) }
+    {
+        let Intake::FromFrames(frames) = &mut self.intake else {
+            unreachable!();
+        };
+        match frames.next(s) {
+            NextFrame::Packet(p) => self.feed_next(p, s),
+            NextFrame::Piece => {}
+            NextFrame::Ended(outcome) => self.end(outcome, s),
+            NextFrame::NoMemory => self.run_short(s),
         }
     }
 
@@ -209,8 +259,8 @@ impl<P: LocalPacket, S: Source, K: Sink> Strand<P, S, K> {
         self.tree.feed(p, s);
     }
 
-    /// Feeds a whole block. Where memory runs out the flow ends.
-    fn feed_block(&mut self, p: P, s: &mut P::Store)
+    /// Feeds a packet behind which more may come. Where memory runs out the flow ends.
+    fn feed_next(&mut self, p: P, s: &mut P::Store)
         requires long { self.old.tree.short ≡ false }
         requires going { IsGoing P.plain K.state P.fits (P.Store.state s.old).family
             self.old.tree }
@@ -318,7 +368,7 @@ impl<P: LocalPacket, S: Source, K: Sink> Strand<P, S, K> {
     }
 }
 
-/// How the flow of a source that gave a whole block ended.
+/// How the flow of a source that gave a packet behind which more may come ended.
 fn ended_where(short: bool) -> Option<Outcome>
     ensures { result ≡ ended_where short }
 {

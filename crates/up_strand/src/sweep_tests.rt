@@ -1,12 +1,15 @@
-ghost use Rattle.std.specs.Prelude.{◌<◌, length};
+ghost use Rattle.std.specs.Prelude.{◌≡◌, ◌<◌, length, false};
 ghost use Rattle.up_outside.specs.Memory.MemSink.{sink_state};
 ghost use Rattle.up_shape.specs.VecPackets.{plain_of};
 ghost use Rattle.up_strand.specs.Stand.{StandForSome, AreTaking};
 ghost use Rattle.up_strand.specs.Tree.{IsSwept};
+ghost use Rattle.up_strand.specs.declared.node.Part.TheVariants as parts;
+ghost use Rattle.up_strand.specs.declared.spelling.Spelling.TheVariants as spellings;
 
 use crate::any_module::AnyModule;
 use crate::ending::{break_all, end_all, fall};
 use crate::node::{Node, Part, Takers};
+use crate::spelling::Spelling;
 use crate::sweep::feed_head;
 use std::alloc::Global;
 use std::process::Abort;
@@ -70,6 +73,17 @@ fn end_tree(
     }
 }
 
+/// A sink that was written nothing.
+fn raw_sink(sink: MemSink) -> Part<MemSink>
+    ensures { result ≡ parts.Sink sink spellings.Raw false }
+{
+    Part::Sink {
+        sink,
+        spelling: Spelling::Raw,
+        failed: false,
+    }
+}
+
 /// Feeds three packets to a tree whose nodes stand in another order, and ends its flow.
 fn run_tree(
     rt: &impl Abort,
@@ -78,24 +92,15 @@ fn run_tree(
     end: &End,
     s: &mut VecStore,
 ) -> [Node<VecPacket, MemSink>; 7] {
-    let failed = false;
     let one = depot.open_sink("one").expect(rt, "no sink");
     let two = depot.open_sink("two").expect(rt, "no sink");
     let three = depot.open_sink("three").expect(rt, "no sink");
     let dup = AnyModule::of::<VecPacket>(&Kind::Dup, None).expect(rt, "no module");
     let skip = AnyModule::of::<VecPacket>(&Kind::Skip { bytes: 2 }, None).expect(rt, "no module");
     let mut nodes = [
-        Node::new(
-            alloc,
-            Some(4),
-            None,
-            Part::Sink {
-                sink: three,
-                failed,
-            },
-        ),
+        Node::new(alloc, Some(4), None, raw_sink(three)),
         Node::new(alloc, None, Some(Takers { first: 3, last: 3 }), Part::Head),
-        Node::new(alloc, Some(3), None, Part::Sink { sink: one, failed }),
+        Node::new(alloc, Some(3), None, raw_sink(one)),
         Node::new(
             alloc,
             Some(1),
@@ -108,7 +113,7 @@ fn run_tree(
             Some(Takers { first: 0, last: 0 }),
             Part::Pipe(skip),
         ),
-        Node::new(alloc, Some(3), None, Part::Sink { sink: two, failed }),
+        Node::new(alloc, Some(3), None, raw_sink(two)),
         Node::new(alloc, Some(3), None, Part::Outlet),
     ];
     feed(rt, &mut nodes, &ORDER, b"abc", s);
@@ -156,7 +161,11 @@ fn sums_of(
             <AnyModule as Module<VecPacket>>::give_up(m, s);
             assert!(rt; written.is_some(), "a pipe goes on");
         }
-        Part::Sink { sink, failed: _ } => assert_eq!(rt; Some(sink.bytes()), written),
+        Part::Sink {
+            sink,
+            spelling: _,
+            failed: _,
+        } => assert_eq!(rt; Some(sink.bytes()), written),
     }
     sums
 }

@@ -1,8 +1,7 @@
 use Rattle.std.proofs.Common.{◌≡◌, false}
 use Rattle.std.proofs.lemmas.List.Elements.{All-pop}
 use Rattle.up_shape.proofs.StoreSteps.{Stays-trans}
-use Rattle.up_strand.specs.Closing.{holds_sink}
-use Rattle.up_strand.specs.Nodes.{NodeFits}
+use Rattle.up_strand.specs.Nodes.{NodeFits, holds_sink}
 use Rattle.up_strand.specs.declared.node.Node.{Node}
 use Rattle.up_strand.proofs.closing.give_up_nodes.Goals as goal
 

@@ -1,6 +1,6 @@
 use Rattle.std.proofs.Common.{◌≡◌, false, length}
 use Rattle.up_shape.specs.Stores.{Stays}
-use Rattle.up_strand.specs.Closing.{holds_sink}
+use Rattle.up_strand.specs.Nodes.{holds_sink}
 use Rattle.up_strand.specs.Gifts.{NodesFit}
 use Rattle.up_strand.specs.Tree.{AllAt}
 use Rattle.up_strand.specs.declared.node.Node.{Node}

@@ -43,7 +43,7 @@ give-requires-clause-takers g c =
     let y : Node g.row.P.Denot g.row.K.Denot = record (get_or now place e) { out = c.next.new.self } in
     let placed = placed_passed g.P.LocalPacket.plain g.K.Sink.state place true c.args.nodes.now now inv.passed in
     takers_same place now (set now place y) _ (length-set now place y)
-    (pairs_set IsAsPlaced now place y e within placed_itself (record { input = refl; takers = refl; outlet = refl; stopped = λ failed. refl }))
+    (pairs_set IsAsPlaced now place y e within placed_itself (record { input = refl; takers = refl; outlet = refl; stopped = λ failed. refl; fallen = λ short. short; still = λ short sink. refl }))
     (takers_same place c.args.nodes.now now _ c.packets.auto.nodes placed inv.takers)
 
 pub give-requires-clause-ready : goal.give-requires-clause-ready

@@ -4,6 +4,7 @@ use Rattle.up_strand.proofs.Begun.{more_at, next_owned, next_sink, node_begins, 
 use Rattle.up_strand.specs.Making.{HasBegun, is_sink_in, seat_in, sink_places}
 use Rattle.up_strand.specs.StrandCalls.{told_of}
 use Rattle.up_strand.specs.declared.node.Part.TheVariants.{Sink}
+use Rattle.up_strand.specs.declared.spelling.Spelling.{Spelling}
 use Rattle.up_strand.proofs.making.nodes_of.Goals as goal
 
 pub part_at-part-requires-clause-sinks : goal.part_at-part-requires-clause-sinks
@@ -32,8 +33,8 @@ loop-i-preserved g c =
     let inputs = can.inputs in
     let takers = can.takers in
     let part_stands = c.part_at-part.ensures.stands told (λ is d. rw inv.rest ((next_sink pipes shape can state sinks i d c.requires.sinks is).1)) in
-    let start : (sink : g.row.K.Denot) (failed : Bool) → c.part_at-part.result ≡ Sink sink failed → (seat_in pipes shape told i).start ≡ state sink =
-    λ sink failed is. let first = c.part_at-part.ensures.sink sink failed is in
+    let start : (sink : g.row.K.Denot) (spelling : Spelling) (failed : Bool) → c.part_at-part.result ≡ Sink sink spelling failed → (seat_in pipes shape told i).start ≡ state sink =
+    λ sink spelling failed is. let first = c.part_at-part.ensures.sink sink spelling failed is in
     (next_sink pipes shape can state sinks i sink c.requires.sinks first.0).1 ∙ ap state (sym (ap (λ l. get_or l 0 sink) inv.rest) ∙ first.1 sink) in
     let input : c.index.result.now ≡ get_or shape.inputs.items i None =
     search (rules, get_or_default shape.inputs.items i c.index.result.now None (omega (arith, inputs, c.loop-i-test.true))) in

@@ -26,6 +26,6 @@ feed-requires-clause-stand g c =
     plain_of sink_state (sink_seat (sink_state c.expect-three.result)) (head_seat start) (sink_seat (sink_state c.expect-one.result))
     (record { kind = Some (any_kind dup); start = start }) (record { kind = Some (any_kind skip); start = start })
     (sink_seat (sink_state c.expect-two.result)) (record { kind = None; start = start })
-    (new_sink plain_of sink_state c.new.result c.expect-three.result c.new.ensures.stands) (new_head plain_of sink_state start c.new-2.result c.new-2.ensures.stands) (new_sink plain_of sink_state c.new-3.result c.expect-one.result c.new-3.ensures.stands)
+    (new_sink plain_of sink_state c.new.result c.expect-three.result (rw c.raw_sink.ensures at c.new.ensures.stands)) (new_head plain_of sink_state start c.new-2.result c.new-2.ensures.stands) (new_sink plain_of sink_state c.new-3.result c.expect-one.result (rw c.raw_sink-2.ensures at c.new-3.ensures.stands))
     (c.new-4.ensures.stands _ (any_within dup) (refl, λ _. dup_fed)) (c.new-5.ensures.stands _ (any_within skip) (refl, λ _. skip_fed))
-    (new_sink plain_of sink_state c.new-6.result c.expect-two.result c.new-6.ensures.stands) (c.new-7.ensures.stands _ tt refl)
+    (new_sink plain_of sink_state c.new-6.result c.expect-two.result (rw c.raw_sink-3.ensures at c.new-6.ensures.stands)) (c.new-7.ensures.stands _ tt refl)

@@ -1,4 +1,5 @@
-use Rattle.std.proofs.Common.{◌∙◌, ap, [], ◌∷◌, refl}
+use Rattle.std.proofs.Common.{◌≡◌, ◌∙◌, ap, [], ◌∷◌, not, refl, sym}
+use Rattle.std.specs.Prelude.{is_ok}
 use Rattle.std.proofs.lemmas.List.Elements.{All-cons, All-nil}
 use Rattle.up_model.specs.Packet.{IsLegal}
 use Rattle.up_model.specs.Tallies.{added}
@@ -15,16 +16,12 @@ returns-in-Err-clause-took g c =
     pipe_fell g.P.LocalPacket.plain g.K.Sink.state c.args.self.now _ (g.P.LocalPacket.plain c.args.p) c.requires.legal c.requires.sound.long
     _ _ c.in-Pipe.is refl refl c.feed.ensures.kind c.in-Err.ensures.in_part
 
-pub returns-in-Ok-written-clause-took : goal.returns-in-Ok-written-clause-took
-returns-in-Ok-written-clause-took g c =
+pub returns-in-Sink-clause-took : goal.returns-in-Sink-clause-took
+returns-in-Sink-clause-took g c =
+    let written = c.write_unless_failed-written in
+    let well : not c.is_err-self.result ≡ is_ok written.result = sym c.is_err-self.ensures.negation in
     sink_took g.P.LocalPacket.plain g.K.Sink.state c.args.self.now _ (g.P.LocalPacket.plain c.args.p) c.requires.legal c.requires.sound.long
-    _ _ _ _ c.in-Sink.is refl (rw c.requires.sound.long c.in-Ok-written.ensures.bytes) c.in-Ok-written.ensures.faults
-    c.add_tally.ensures.packets (c.add_tally.ensures.tally ∙ ap (added c.args.self.now.out.tally) c.of_sink.ensures)
-
-pub returns-in-Err-written-clause-took : goal.returns-in-Err-written-clause-took
-returns-in-Err-written-clause-took g c =
-    sink_took g.P.LocalPacket.plain g.K.Sink.state c.args.self.now _ (g.P.LocalPacket.plain c.args.p) c.requires.legal c.requires.sound.long
-    _ _ _ _ c.in-Sink.is refl c.in-Err-written.ensures.bytes c.in-Err-written.ensures.faults
+    _ _ _ _ _ _ c.in-Sink.is refl written.ensures.form (rw well written.ensures.bytes) written.ensures.faults
     c.add_tally.ensures.packets (c.add_tally.ensures.tally ∙ ap (added c.args.self.now.out.tally) c.of_sink.ensures)
 
 pub returns-in-Ok-put_out-clause-took : goal.returns-in-Ok-put_out-clause-took

@@ -14,6 +14,12 @@ returns-in-None-FromSource g c =
     let past : length strand.tree.nodes.items ≤ strand.ready = search rules in
     sym (want_none strand c.requires.stands.1.sent.ready past ∙ rw (c.in-None-FromSource.is-0, c.in-None-FromSource.is-1) refl)
 
+pub returns-in-None-FromFrames : goal.returns-in-None-FromFrames
+returns-in-None-FromFrames g c =
+    let strand = c.args.self.now in
+    let past : length strand.tree.nodes.items ≤ strand.ready = search rules in
+    sym (want_none strand c.requires.stands.1.sent.ready past ∙ rw (c.in-None-FromFrames.is-0, c.in-None-FromFrames.is-1) refl)
+
 pub returns-in-None-FromLane : goal.returns-in-None-FromLane
 returns-in-None-FromLane g c =
     let strand = c.args.self.now in
