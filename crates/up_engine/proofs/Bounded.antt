@@ -45,7 +45,7 @@ sent_length sent closed kind =
     let one = end_is_one closed kind in
     omega (arith, all, one)
 
-first_is_shorter : (front whole : Flow) → IsPrefix front whole → length front ≤ length whole
+pub first_is_shorter : (front whole : Flow) → IsPrefix front whole → length front ≤ length whole
 first_is_shorter front whole first = omega (arith, ap length first.1, length-append front first.0)
 
 come_is_shorter : (come waits sent : List PlainItem) → come ++ waits ≡ sent → length come ≤ length sent

@@ -1,7 +1,8 @@
 -- Unless memory ran out, which an outcome tells, the pipes ended, put out and counted as the graph means of what its sources gave.
-use Rattle.std.proofs.Common.{◌≡◌, ℕ, ◌+◌, ◌<◌, ◌≤◌, List, [], length, map, get_or, min, sum, Bool, true, false, not, Option, Some, None, slice_get, filter, refl, sym, ap, ◌∙◌, subst, arith, inl, inr, if◌then◌else◌}
-use Rattle.std.specs.Io.KnownBytes.{Appends}
+use Rattle.std.proofs.Common.{◌≡◌, ◌⊎◌, ℕ, ◌+◌, ◌<◌, ◌≤◌, List, [], length, map, get_or, min, sum, Bool, true, false, not, Option, Some, None, slice_get, filter, refl, sym, ap, ◌∙◌, subst, arith, inl, inr, if◌then◌else◌}
+use Rattle.std.specs.Io.KnownBytes.{Appends, IsAtEnd}
 use Rattle.std.specs.List.{Contains}
+use Rattle.std.specs.Prelude.{option_and_then}
 use Rattle.std.specs.Option.{option_map_or}
 use Rattle.std.proofs.lemmas.Bool.{cases_Bool}
 use Rattle.std.proofs.lemmas.List.FromFn.{get_or-map-range_with_len, length-range_with_len}
@@ -30,19 +31,23 @@ use Rattle.up_engine.specs.declared.object.Object.{Object}
 use Rattle.up_engine.specs.declared.object.Object.TheVariants as objects
 use Rattle.up_engine.specs.declared.results.Results.{Results}
 use Rattle.up_model.proofs.Members.{kept_passes, passing_pipe, passing_places_have}
+use Rattle.up_model.proofs.Shown.{unshown_is_at_end}
 use Rattle.up_model.proofs.WellFormed.{there as pipe_there}
 use Rattle.up_model.specs.Ends.{is_source}
 use Rattle.up_model.specs.Inputs.{ends_at_source, passes_at, places, source_of}
 use Rattle.up_model.specs.Meaning.{Doing, bytes_by, input_by, tally_of, to_sources, wholly}
-use Rattle.up_model.specs.Outcomes.{carried_as}
-use Rattle.up_model.specs.Packet.{Flow}
+use Rattle.up_model.specs.FrameStreams.{cut_at}
+use Rattle.up_model.specs.Outcomes.{carried_as, outcome_at_end, own_outcome, shown_of, source_outcome}
+use Rattle.up_model.specs.Packet.{Flow, count_with_bytes}
 use Rattle.up_model.specs.Plans.{heads, is_fed, is_head}
 use Rattle.up_model.specs.Tallies.{greatest_sum, nothing}
 use Rattle.up_model.specs.WellFormed.{IsWellFormed}
+use Rattle.up_model.specs.declared.form.SourceForm.{SourceForm}
+use Rattle.up_model.specs.declared.form.SourceForm.TheVariants.{Raw, Framed}
 use Rattle.up_model.specs.declared.kind.Kind.{Kind}
 use Rattle.up_model.specs.declared.kind.Kind.TheVariants.{Source, Sink}
 use Rattle.up_model.specs.declared.outcome.Outcome.{Outcome}
-use Rattle.up_model.specs.declared.outcome.Outcome.TheVariants.{Whole, ReadFault, WriteFault, TooLong, Broken, NoMemory}
+use Rattle.up_model.specs.declared.outcome.Outcome.TheVariants.{Whole, ReadFault, WriteFault, BadFrame, TooLong, Broken, NoMemory}
 use Rattle.up_model.specs.declared.pipe.Pipe.{Pipe}
 use Rattle.up_model.specs.declared.tally.Tally.{Tally}
 use Rattle.up_outside.specs.Counts.{CountsWhere}
@@ -51,7 +56,7 @@ use Rattle.up_shape.specs.Stores.{StoreState}
 use Rattle.up_plan.proofs.OneStrand.{own_head, strand_has}
 use Rattle.up_strand.specs.History.{History, carried_by, doing, head_flow, outcome_by, outcome_of_source, outcome_without, sums_at}
 use Rattle.up_strand.specs.Reads.{WereRead}
-use Rattle.up_strand.specs.StrandCalls.{bytes_due, flow_due}
+use Rattle.up_strand.specs.StrandCalls.{SourceEnds, bytes_due, flow_due, shown_at_head}
 use Rattle.up_strand.specs.Strands.{ended_at_fault}
 use Rattle.up_strand.specs.Writing.{IsSameSink}
 
@@ -66,6 +71,7 @@ whole_of_source true None is = absurd (cc)
 whole_of_source true (Some Whole) is = absurd (cc)
 whole_of_source true (Some ReadFault) is = absurd (cc)
 whole_of_source true (Some WriteFault) is = absurd (cc)
+whole_of_source true (Some (BadFrame offset)) is = absurd (cc)
 whole_of_source true (Some (TooLong limit)) is = absurd (cc)
 whole_of_source true (Some Broken) is = absurd (cc)
 whole_of_source true (Some NoMemory) is = absurd (cc)
@@ -75,6 +81,40 @@ whole_is_long (Source path form limit) failed short ended is = whole_of_source s
 whole_is_long (Sink path form) true short ended is = absurd (cc)
 whole_is_long (Sink path form) false short ended is = whole_without short ended is
 whole_is_long kind failed short ended is = whole_without short ended is
+
+-- an outcome of bytes at their end: they are whole, or a frame is unfinished
+told_at_end : (form : SourceForm) (bytes : List ℕ) → (outcome_at_end form bytes ≡ Whole) ⊎ ((offset : ℕ) × (outcome_at_end form bytes ≡ BadFrame offset))
+told_at_end (Raw block) bytes = inl refl
+told_at_end Framed bytes = by_cut (cut_at bytes)
+  where
+    by_cut : (cut : Option ℕ) → (option_map_or BadFrame cut Whole ≡ Whole) ⊎ ((offset : ℕ) × (option_map_or BadFrame cut Whole ≡ BadFrame offset))
+    by_cut None = inl refl
+    by_cut (Some offset) = inr (offset, refl)
+
+unshown_own : (kind : Kind) (bytes : List ℕ) (outcome : Outcome) → is_source kind ≡ true → own_outcome kind false bytes ≡ Some outcome → shown_of kind bytes ≡ None
+    → (outcome ≡ Whole) ⊎ ((offset : ℕ) × (outcome ≡ BadFrame offset))
+unshown_own (Source path form limit) bytes outcome source own unshown =
+    let same : source_outcome form limit bytes ≡ outcome = same_Some (source_outcome form limit bytes) outcome own in
+    let ends : outcome ≡ outcome_at_end form bytes = sym same ∙ unshown_is_at_end form limit bytes unshown in
+    elim (told_at_end form bytes) [
+      | inl whole ↦ inl (ends ∙ whole)
+      | inr bad ↦ inr (bad.0, ends ∙ bad.1)
+    ]
+unshown_own kind bytes outcome source own unshown = absurd (cc)
+
+-- a source of which no read failed gave all where its bytes show no outcome
+gave_to_end : (h : History) (pipe : Pipe) (now : SourceState) (outcome : Outcome) → slice_get h.pipes h.head ≡ Some pipe → SourceEnds h now → h.ended ≡ Some outcome
+    → is_source pipe.kind ≡ true → own_outcome pipe.kind false h.read ≡ Some outcome → shown_of pipe.kind h.read ≡ None → IsAtEnd now.left
+gave_to_end h pipe now outcome there ends ended source own unshown = elim (unshown_own pipe.kind h.read outcome source own unshown) [
+  | inl whole ↦ ends.whole (ended ∙ ap Some whole)
+  | inr bad ↦ elim (ends.settled bad.0 (ended ∙ ap Some bad.1)) [
+    | inl shown ↦ absurd (
+        let none : shown_at_head h ≡ None = ap (option_and_then (λ (pipe : Pipe). shown_of pipe.kind h.read)) there ∙ unshown in
+        let no : None ≡ Some (BadFrame bad.0) = sym none ∙ shown in
+        cc)
+    | inr end ↦ end
+  ]
+]
 
 module _ {S K : Type 0} (reads : S → SourceState) (writes : K → SinkState) (pipes : List Pipe) (well : IsWellFormed pipes) (before after : List (Object S K))
     (there : AreThere reads writes pipes (length (path_places pipes)) before) (past now : ℕ → History) (begins : AllBegin reads writes pipes before past)
@@ -92,7 +132,7 @@ module _ {S K : Type 0} (reads : S → SourceState) (writes : K → SinkState) (
       let head = source_heads pipes source pipe at is in
       let own = source_so source pipe at is in
       source_put_out pipes source (now source) pipe (ends source head).graph (ends source head).place at is
-      ∙ ap (λ e. carried_by e pipe.kind (now source).read) own.end
+      ∙ ap (λ e. carried_by e (now source).fed pipe.kind (now source).read) own.end
       ∙ ap (λ e. carried_as e pipe.kind (now source).read) (sym (ending_is source pipe at is))
       ∙ sym (ap (λ (p : Option Pipe). option_map_or (λ (pipe : Pipe). carried_as (ending pipes (ways_of pipes now) source) pipe.kind (now source).read) p []) at)
 
@@ -109,8 +149,15 @@ module _ {S K : Type 0} (reads : S → SourceState) (writes : K → SinkState) (
           took = subst (λ (start : SourceState). WereRead start (reads own.new) (now place).read (length (now place).read)) own.start own.ends.took;
           faults = subst (λ (failed : Bool). CountsWhere failed (reads old).faults (reads own.new).faults) (sym (source_failed pipes now place pipe at is))
               (subst (λ (start : SourceState). CountsWhere (ended_at_fault (now place).ended) start.faults (reads own.new).faults) own.start own.ends.faults);
-          whole = λ whole. own.ends.whole (end.end ∙ ap Some (sym (ending_is place pipe at is) ∙ whole));
-          within = sources_within pipes now (λ head is_head. (ends head is_head).within) (ways_of pipes now).failed (ways_of pipes now).shut place pipe at
+          all = λ clean unshown.
+              let strand = ends place (source_heads pipes place pipe at is) in
+              let stands : slice_get (now place).pipes (now place).head ≡ Some pipe =
+              ap (λ (ps : List Pipe). slice_get ps (now place).head) strand.graph ∙ ap (slice_get pipes) strand.place ∙ at in
+              let fine : ended_at_fault (now place).ended ≡ false = sym (source_failed pipes now place pipe at is) ∙ clean in
+              let told : own_outcome pipe.kind false (now place).read ≡ Some end.outcome =
+              ap (λ failed. own_outcome pipe.kind failed (now place).read) (sym fine) ∙ end.own in
+              gave_to_end (now place) pipe (reads own.new) end.outcome stands own.ends end.end is told unshown;
+          within = sources_within pipes now (λ head is_head. (ends head is_head).gave) (ways_of pipes now).failed (ways_of pipes now).shut place pipe at
               (source_failed pipes now place pipe at);
         },
       )
@@ -122,6 +169,7 @@ module _ {S K : Type 0} (reads : S → SourceState) (writes : K → SinkState) (
   meant_is_due place source pipe at none of same Whole = whole_bytes pipes well place source pipe at none of (carried pipes (ways_of pipes now)) (put_out pipes now) same
   meant_is_due place source pipe at none of same ReadFault = part_bytes pipes well place source pipe at none of (carried pipes (ways_of pipes now)) (put_out pipes now) same
   meant_is_due place source pipe at none of same WriteFault = part_bytes pipes well place source pipe at none of (carried pipes (ways_of pipes now)) (put_out pipes now) same
+  meant_is_due place source pipe at none of same (BadFrame offset) = part_bytes pipes well place source pipe at none of (carried pipes (ways_of pipes now)) (put_out pipes now) same
   meant_is_due place source pipe at none of same (TooLong limit) = part_bytes pipes well place source pipe at none of (carried pipes (ways_of pipes now)) (put_out pipes now) same
   meant_is_due place source pipe at none of same Broken = part_bytes pipes well place source pipe at none of (carried pipes (ways_of pipes now)) (put_out pipes now) same
   meant_is_due place source pipe at none of same NoMemory = part_bytes pipes well place source pipe at none of (carried pipes (ways_of pipes now)) (put_out pipes now) same
@@ -226,33 +274,33 @@ module _ {S K : Type 0} (reads : S → SourceState) (writes : K → SinkState) (
         ∙ sym (get_or-map-range_with_len tally 0 (length pipes) place place nothing within (omega arith)))
 
   -- what was fed in all is what the sources carried
-  fed_as_carried : (place : ℕ) → passes_at ends_at_source pipes place ≡ true → (passes_at is_head pipes place ≡ true) × (fed_at pipes now place ≡ length (carried pipes (ways_of pipes now) place))
+  fed_as_carried : (place : ℕ) → passes_at ends_at_source pipes place ≡ true → (passes_at is_head pipes place ≡ true) × (fed_at pipes now place ≡ count_with_bytes (carried pipes (ways_of pipes now) place))
   fed_as_carried place is =
       let pipe = passing_pipe ends_at_source pipes place is in
       let head = source_heads pipes place pipe.0 pipe.1 pipe.2 in
       let fed : (now place).fed ≡ head_flow (now place) = (ends place head).fed (source_so place pipe.0 pipe.1 pipe.2).long in (
         kept_passes (passes_at is_head pipes) (places pipes) place head,
-        ap (λ (b : Bool). if b then 0 else length (now place).fed) (source_is_unfed pipes place is) ∙ ap length (fed ∙ source_carried place pipe.0 pipe.1 pipe.2),
+        ap (λ (b : Bool). if b then 0 else count_with_bytes (now place).fed) (source_is_unfed pipes place is) ∙ ap count_with_bytes (fed ∙ source_carried place pipe.0 pipe.1 pipe.2),
       )
 
   fed_none : (place : ℕ) → passes_at ends_at_source pipes place ≡ false → passes_at is_head pipes place ≡ true → fed_at pipes now place ≡ 0
   fed_none place other is =
       let pipe = passing_pipe is_head pipes place is in
       let none : is_source pipe.0.kind ≡ false = sym (ap (λ (p : Option Pipe). option_map_or (λ (pipe : Pipe). is_source pipe.kind) p false) pipe.1) ∙ other in
-      ap (λ (b : Bool). if b then 0 else length (now place).fed) (ap (λ (p : Option Pipe). option_map_or (λ (pipe : Pipe). not (is_source pipe.kind)) p false) pipe.1 ∙ ap not none)
+      ap (λ (b : Bool). if b then 0 else count_with_bytes (now place).fed) (ap (λ (p : Option Pipe). option_map_or (λ (pipe : Pipe). not (is_source pipe.kind)) p false) pipe.1 ∙ ap not none)
 
-  pub fed_is_carried : fed_in_all pipes now ≡ sum (map (λ place. length (carried pipes (ways_of pipes now) place)) (filter (passes_at ends_at_source pipes) (places pipes)))
+  pub fed_is_carried : fed_in_all pipes now ≡ sum (map (λ place. count_with_bytes (carried pipes (ways_of pipes now) place)) (filter (passes_at ends_at_source pipes) (places pipes)))
   fed_is_carried =
-      sum_of_some (passes_at is_head pipes) (passes_at ends_at_source pipes) (fed_at pipes now) (λ place. length (carried pipes (ways_of pipes now) place))
+      sum_of_some (passes_at is_head pipes) (passes_at ends_at_source pipes) (fed_at pipes now) (λ place. count_with_bytes (carried pipes (ways_of pipes now) place))
       fed_as_carried fed_none (places pipes)
 
   -- nothing was fed when the strands began
   begun_unfed : (place : ℕ) → passes_at is_head pipes place ≡ true → fed_at pipes past place ≡ 0
   begun_unfed place is =
-      let none : length (past place).fed ≡ 0 = ap (λ (h : History). length h.fed) (begins place (passing_places_have is_head pipes place is)).begins in
+      let none : count_with_bytes (past place).fed ≡ 0 = ap (λ (h : History). count_with_bytes h.fed) (begins place (passing_places_have is_head pipes place is)).begins in
       elim (cases_Bool (passes_at is_fed pipes place)) [
-        | inl fed ↦ ap (λ (b : Bool). if b then 0 else length (past place).fed) fed
-        | inr source ↦ ap (λ (b : Bool). if b then 0 else length (past place).fed) source ∙ none
+        | inl fed ↦ ap (λ (b : Bool). if b then 0 else count_with_bytes (past place).fed) fed
+        | inr source ↦ ap (λ (b : Bool). if b then 0 else count_with_bytes (past place).fed) source ∙ none
       ]
 
   pub begun_none_fed : fed_in_all pipes past ≡ 0

@@ -1,7 +1,7 @@
 -- What a net carried, from when its strands were made to when they were given up.
 use Rattle.std.proofs.Common.{ℕ, ◌≤◌, List, [], length, refl, ◌∙◌}
 use Rattle.std.proofs.lemmas.Option.{slice_get_within}
-use Rattle.up_engine.proofs.BegunStrands.{begun_joined, begun_within}
+use Rattle.up_engine.proofs.BegunStrands.{begun_gave, begun_joined}
 use Rattle.up_engine.proofs.Bounded.{net_joined}
 use Rattle.up_engine.proofs.CarriedAll.{carried_all}
 use Rattle.up_engine.proofs.CarriedFirst.{carried_short}
@@ -37,7 +37,7 @@ module _ {S K : Type 0} (reads : S → SourceState) (writes : K → SinkState) (
   pub unmade_short : AreBack reads writes pipes past after → CarriedShort reads writes pipes before after
   unmade_short back =
       carried_short reads writes pipes well before after there past past begins (λ head. record { source = refl; sinks = refl }) back (λ lane. [])
-      (begun_joined reads writes pipes before past begins) (begun_within reads writes pipes before past begins)
+      (begun_joined reads writes pipes before past begins) (begun_gave reads writes pipes before past begins)
 
   module _ {P F : Type 0} (plain : P → PlainPacket) (net : Net P S K) (made ran : StoreState F) (run : RanToEnd plain reads writes pipes past net made ran)
       (back : AreBack reads writes pipes run.went.now after) where
@@ -45,7 +45,7 @@ module _ {S K : Type 0} (reads : S → SourceState) (writes : K → SinkState) (
     net_short =
         carried_short reads writes pipes well before after there past run.went.now begins run.went.on back
         _ (net_joined plain reads writes pipes run.went.now net run.went.stands)
-        (λ head is. (strands_end plain reads writes pipes run.went.now net run.went.stands head is).within)
+        (λ head is. (strands_end plain reads writes pipes run.went.now net run.went.stands head is).gave)
 
     pub net_through : (results : Results) → AreTold pipes run.went.now results → (store_before store_after : StoreState F) → store_before.drawn ≤ made.drawn → ran.drawn ≤ store_after.drawn
         → CarriedThrough reads writes pipes before after results store_before store_after

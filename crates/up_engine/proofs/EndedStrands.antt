@@ -17,13 +17,15 @@ use Rattle.up_model.proofs.Members.{filter_has, passing_pipe}
 use Rattle.up_model.specs.Ends.{is_sink, is_source}
 use Rattle.up_model.specs.Inputs.{ends_at_source, passes_at}
 use Rattle.up_model.specs.Plans.{ends_at_sink, is_fed, sinks_of, strand_of}
+use Rattle.up_model.specs.declared.form.SourceForm.{SourceForm}
+use Rattle.up_model.specs.declared.form.SourceForm.TheVariants.{Raw, Framed}
 use Rattle.up_model.specs.declared.pipe.Pipe.{Pipe}
 use Rattle.up_outside.specs.States.{SourceState, SinkState}
 use Rattle.up_strand.specs.History.{History}
 use Rattle.up_strand.specs.StrandCalls.{Finished, SinkEnds, SourceEnds}
-use Rattle.up_strand.specs.Strands.{IntakeStands}
+use Rattle.up_strand.specs.Strands.{IntakeStands, IsReading}
 use Rattle.up_strand.specs.declared.intake.Intake.{Intake}
-use Rattle.up_strand.specs.declared.intake.Intake.TheVariants.{FromSource, FromLane}
+use Rattle.up_strand.specs.declared.intake.Intake.TheVariants.{FromSource, FromFrames, FromLane}
 use Rattle.up_strand.specs.declared.strand_end.StrandEnd.{StrandEnd}
 
 not_so : (b : Bool) → not b ≡ true → b ≡ false
@@ -37,10 +39,16 @@ fed_no_source pipes place fed =
     is_source_there pipes place pipe.0 pipe.1 ∙ not_so (is_source pipe.0.kind) pipe.2
 
 module _ {S : Type 0} (reads : S → SourceState) where
+  reading_source : (now : SourceState) (form : SourceForm) (limit : ℕ) (h : History) → IsReading now form limit h
+      → is_some h.source ≡ passes_at ends_at_source h.pipes h.head
+  reading_source now form limit h reading =
+      ap is_some reading.told ∙ sym (is_source_there h.pipes h.head reading.pipe reading.there ∙ ap is_source reading.kind)
+
   -- a strand has a source where its head is one
   pub intake_source : (intake : Intake S) (h : History) → IntakeStands reads intake h → is_some h.source ≡ passes_at ends_at_source h.pipes h.head
   intake_source (FromSource source block limit left) h stands =
-      ap is_some stands.told ∙ sym (is_source_there h.pipes h.head stands.pipe stands.there ∙ ap is_source stands.kind)
+      reading_source (reads source) (Raw block) limit h stands.reading
+  intake_source (FromFrames frames) h stands = reading_source (reads frames.source) Framed frames.limit h stands.reading
   intake_source FromLane h stands = ap is_some stands.none ∙ sym (fed_no_source h.pipes h.head stands.fed)
 
   pub source_left : (source : Option S) (h : History) → MatchOption source (h.source ≡ None) (λ s. SourceEnds h (reads s)) → is_some source ≡ is_some h.source

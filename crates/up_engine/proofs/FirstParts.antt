@@ -19,7 +19,7 @@ use Rattle.up_model.specs.Packet.{Flow}
 use Rattle.up_model.specs.Plans.{heads, is_fed, lanes}
 use Rattle.up_model.specs.WellFormed.{IsWellFormed}
 use Rattle.up_model.specs.declared.outcome.Outcome.{Outcome}
-use Rattle.up_model.specs.declared.outcome.Outcome.TheVariants.{Whole, ReadFault, WriteFault, TooLong, Broken, NoMemory}
+use Rattle.up_model.specs.declared.outcome.Outcome.TheVariants.{Whole, ReadFault, WriteFault, BadFrame, TooLong, Broken, NoMemory}
 use Rattle.up_model.specs.declared.pipe.Pipe.{Pipe}
 use Rattle.up_strand.proofs.Reaching.{prefix_on}
 use Rattle.up_strand.proofs.ReadSteps.{same_first}
@@ -32,6 +32,7 @@ whole_or_so_far None = inr refl
 whole_or_so_far (Some Whole) = inl refl
 whole_or_so_far (Some ReadFault) = inr refl
 whole_or_so_far (Some WriteFault) = inr refl
+whole_or_so_far (Some (BadFrame offset)) = inr refl
 whole_or_so_far (Some (TooLong limit)) = inr refl
 whole_or_so_far (Some Broken) = inr refl
 whole_or_so_far (Some NoMemory) = inr refl
@@ -41,6 +42,7 @@ grows_by None = so_far-grows
 grows_by (Some Whole) = so_far-wholly
 grows_by (Some ReadFault) = so_far-grows
 grows_by (Some WriteFault) = so_far-grows
+grows_by (Some (BadFrame offset)) = so_far-grows
 grows_by (Some (TooLong limit)) = so_far-grows
 grows_by (Some Broken) = so_far-grows
 grows_by (Some NoMemory) = so_far-grows

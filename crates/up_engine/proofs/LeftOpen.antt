@@ -29,7 +29,7 @@ abbrev pub ways_given : (ℕ → List ℕ) → (ℕ → Bool) → Ways
 ways_given given failed = record { given = given; failed = failed; shut = λ other. true }
 
 none_within : (pipes : List Pipe) (place : ℕ) (kind : Kind) → GaveWithin pipes (ways_given (λ other. []) (λ other. false)) place kind
-none_within pipes place (Source path form limit) = (omega arith, λ fails. omega arith)
+none_within pipes place (Source path form limit) = (omega arith, λ fails. absurd (true≢false (sym fails)))
 none_within pipes place kind = tt
 
 same_sum : (a : Option ℕ) → Then (λ before after. Unit {0}) a a

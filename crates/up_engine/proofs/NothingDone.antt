@@ -3,20 +3,17 @@ use Rattle.std.proofs.Common.{◌≡◌, ℕ, zero, suc, ◌+◌, ◌==◌, List
 use Rattle.std.specs.Io.KnownBytes.{Consumes}
 use Rattle.std.specs.Option.{option_map_or}
 use Rattle.std.proofs.KnownBytes.{Appends-nil}
-use Rattle.std.proofs.Math.Nat.{zero-div}
 use Rattle.std.proofs.lemmas.Bool.{cases_Bool}
 use Rattle.up_model.proofs.EveryKind.{lawful}
 use Rattle.up_model.proofs.WellFormed.{are_bounded}
 use Rattle.up_model.specs.Ends.{is_source}
 use Rattle.up_model.specs.Kinds.{IsWithinBounds, settled_output, written_of}
 use Rattle.up_model.specs.Meaning.{bytes_by, done_by, flow_by, flow_within, shared, so_far, taken_at, taken_from, work_at}
-use Rattle.up_model.specs.Outcomes.{settled_source_flow}
 use Rattle.up_model.specs.Packet.{Flow}
 use Rattle.up_model.specs.Shares.{share_by}
 use Rattle.up_model.specs.WellFormed.{IsWellFormed}
 use Rattle.up_model.specs.declared.fan_out.FanOut.{FanOut}
 use Rattle.up_model.specs.declared.fan_out.FanOut.TheVariants as fans
-use Rattle.up_model.specs.declared.form.SourceForm.TheVariants as source_forms
 use Rattle.up_model.specs.declared.form.SinkForm.TheVariants as sink_forms
 use Rattle.up_model.specs.declared.kind.Kind.{Kind}
 use Rattle.up_model.specs.declared.kind.Kind.TheVariants as kinds
@@ -31,6 +28,7 @@ use Rattle.up_strand.specs.StrandCalls.{SinkEnds, SourceEnds, begun, bytes_due}
 -- a sink writes nothing of nothing, and no other kind writes anything
 written_none : (kind : Kind) → written_of kind [] ≡ []
 written_none (kinds.Sink path sink_forms.Raw) = refl
+written_none (kinds.Sink path sink_forms.Framed) = refl
 written_none kind = refl
 
 share_none : (fan_out : FanOut) (select : Option ℕ) → share_by fan_out select [] ≡ []
@@ -69,24 +67,20 @@ module _ (pipes : List Pipe) (well : IsWellFormed pipes) (head : ℕ) where
   puts_none zero place = refl
   puts_none (suc steps) place = work_none (flow_within so_far pipes (to_head head []) steps) (puts_none steps) place (slice_get pipes place) refl
 
--- no block of a source is full before its first byte, and no other kind carries anything of its own
-carried_none : (kind : Kind) → settled_source_flow kind [] ≡ []
-carried_none (kinds.Source path (source_forms.Raw block) limit) = rw (zero-div block) refl
-carried_none kind = refl
+-- no head had anything yet
+had_by_kind : (source : Bool) (flow : Flow) → cond source flow flow ≡ flow
+had_by_kind true flow = refl
+had_by_kind false flow = refl
 
-had_by_kind : (source : Bool) (kind : Kind) → cond source (settled_source_flow kind []) [] ≡ []
-had_by_kind true kind = carried_none kind
-had_by_kind false kind = refl
-
-had_none : (pipe : Option Pipe) → option_map_or (λ (pipe : Pipe). cond (is_source pipe.kind) (settled_source_flow pipe.kind []) []) pipe [] ≡ []
-had_none None = refl
-had_none (Some pipe) = had_by_kind (is_source pipe.kind) pipe.kind
+had_none : (flow : Flow) (pipe : Option Pipe) → option_map_or (λ (pipe : Pipe). cond (is_source pipe.kind) flow flow) pipe flow ≡ flow
+had_none flow None = refl
+had_none flow (Some pipe) = had_by_kind (is_source pipe.kind) flow
 
 -- nothing is to be written yet
 pub nothing_due : (pipes : List Pipe) (well : IsWellFormed pipes) (head : ℕ) (source : Option SourceState) (told : ℕ → SinkState) (place : ℕ) (pipe : Pipe)
     → bytes_due (begun pipes head source told) place pipe (doing None) ≡ []
 nothing_due pipes well head source told place pipe =
-    ap (λ (had : Flow). bytes_by so_far pipes (to_head head had) place pipe) (had_none (slice_get pipes head))
+    ap (λ (had : Flow). bytes_by so_far pipes (to_head head had) place pipe) (had_none [] (slice_get pipes head))
     ∙ ap (written_of pipe.kind) (takes_none pipes well head (flow_by so_far pipes (to_head head [])) (λ p. puts_none pipes well head (length pipes) p) place pipe)
     ∙ written_none pipe.kind
 
@@ -103,6 +97,7 @@ source_unread pipes head told start = record {
   once = omega arith;
   left = refl;
   whole = λ is. absurd (cc);
+  settled = λ offset is. absurd (cc);
 }
   where
     consumes_none : (left : Option (List ℕ)) → Consumes left left []

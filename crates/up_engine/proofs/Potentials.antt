@@ -19,7 +19,7 @@ use Rattle.up_model.proofs.Steps.{found_passes}
 use Rattle.up_model.specs.Ends.{is_source}
 use Rattle.up_model.specs.Inputs.{ends_at_source, passes_at, places, source_of}
 use Rattle.up_model.specs.Meaning.{Feeding, input_by, to_sources}
-use Rattle.up_model.specs.Packet.{Flow}
+use Rattle.up_model.specs.Packet.{Flow, count_with_bytes}
 use Rattle.up_model.specs.Plans.{heads, is_fed, is_head, lanes}
 use Rattle.up_model.specs.declared.kind.Kind.{Kind}
 use Rattle.up_model.specs.declared.kind.Kind.TheVariants.{Source}
@@ -40,8 +40,9 @@ pub record GaveNoMore (before after : History) : Type 0 where
 same_reads_of : (before after : History) (kind : Kind) → (is_source kind ≡ true → GaveNoMore before after) → reads_of after kind ≡ reads_of before kind
 same_reads_of before after (Source path form limit) same =
     let none = same refl in
-    ap (λ (e : Option Outcome). if is_some e then 0 else (limit + 2) - length after.read) none.ended
-    ∙ ap (λ (bytes : List ℕ). if is_some before.ended then 0 else (limit + 2) - length bytes) none.read
+    ap (λ (e : Option Outcome). if is_some e then 0 else (2 * limit + 3) - (length after.read + length after.fed)) none.ended
+    ∙ ap (λ (bytes : List ℕ). if is_some before.ended then 0 else (2 * limit + 3) - (length bytes + length after.fed)) none.read
+    ∙ ap (λ (fed : Flow). if is_some before.ended then 0 else (2 * limit + 3) - (length before.read + length fed)) none.fed
 same_reads_of before after kind same = refl
 
 source_kind : (source fed : Bool) → fed ≡ not source → fed ≡ false → source ≡ true
@@ -101,7 +102,7 @@ module _ (pipes : List Pipe) (past now : ℕ → History) where
           let fails : not (is_source pipe.0.kind) ≡ false = sym (ap (λ (p : Option Pipe). option_map_or (λ (pipe : Pipe). not (is_source pipe.kind)) p false) pipe.1) ∙ none in
           let is : passes_at ends_at_source pipes head ≡ true =
           ap (λ (p : Option Pipe). option_map_or (λ (pipe : Pipe). is_source pipe.kind) p false) pipe.1 ∙ source_kind (is_source pipe.0.kind) (not (is_source pipe.0.kind)) refl fails in
-          ap (λ (flow : Flow). if passes_at is_fed pipes head then 0 else length flow) (kept head is).fed
+          ap (λ (flow : Flow). if passes_at is_fed pipes head then 0 else count_with_bytes flow) (kept head is).fed
     ]
 
     pub same_fed_in_all : fed_in_all pipes now ≡ fed_in_all pipes past

@@ -4,6 +4,7 @@ use Rattle.std.specs.Option.{option_map_or}
 use Rattle.std.proofs.lemmas.Bool.Decides.{eqb_tells}
 use Rattle.std.proofs.lemmas.List.{get_or-set_same}
 use Rattle.up_engine.proofs.Asking.{asks_to_read}
+use Rattle.up_engine.proofs.Bounded.{first_is_shorter}
 use Rattle.up_engine.proofs.Fillers.{filled_is_lane, head_there, head_within, lane_is_fed, source_is_unfed}
 use Rattle.up_engine.proofs.Fitting.{fits_on}
 use Rattle.up_engine.proofs.GoneOn.{gone_on, still_step, went}
@@ -16,14 +17,20 @@ use Rattle.up_engine.specs.Joins.{filler_of}
 use Rattle.up_engine.specs.Nets.{ArePumped, IsFull, NetFits, NetStands, Turned, fed_at, fed_in_all, head_at, items_at, reads_at, reads_left, reads_of}
 use Rattle.up_engine.specs.declared.net.Net.{Net}
 use Rattle.up_engine.specs.declared.net.Turn.TheVariants as turns
+use Rattle.up_model.proofs.Carried.{few_carried}
+use Rattle.up_model.proofs.Counting.{count_with_bytes-append}
 use Rattle.up_model.proofs.Members.{kept_once, kept_passes, passing_pipe}
+use Rattle.up_model.proofs.WellFormed.{is_pipe}
 use Rattle.up_model.specs.Ends.{is_source}
 use Rattle.up_model.specs.Inputs.{ends_at_source, passes_at, places}
+use Rattle.up_model.specs.Outcomes.{settled_source_flow}
+use Rattle.up_model.specs.Packet.{count_with_bytes}
 use Rattle.up_model.specs.Plans.{heads, is_fed, is_head}
 use Rattle.up_model.specs.declared.form.SourceForm.{SourceForm}
 use Rattle.up_model.specs.declared.kind.Kind.{Kind}
 use Rattle.up_model.specs.declared.kind.Kind.TheVariants as kinds
 use Rattle.up_model.specs.declared.outcome.Outcome.{Outcome}
+use Rattle.up_model.specs.declared.outcome.Outcome.TheVariants.{ReadFault}
 use Rattle.up_model.specs.declared.pipe.Pipe.{Pipe}
 use Rattle.up_model.specs.declared.plain_packet.PlainPacket.{PlainPacket}
 use Rattle.up_outside.specs.States.{SourceState, SinkState}
@@ -31,6 +38,7 @@ use Rattle.up_pump.specs.Pumps.{Pumps, blockers_at, pump_at}
 use Rattle.up_queue.specs.Lane.{Lane}
 use Rattle.up_shape.specs.Stores.{StoreState}
 use Rattle.up_strand.proofs.HeadFlows.{few_read_of_head}
+use Rattle.up_strand.proofs.HeadPackets.{settled_first}
 use Rattle.up_strand.specs.History.{History}
 use Rattle.up_strand.specs.StrandCalls.{IsLegalItem, ItemFits, SteppedRead}
 use Rattle.up_strand.specs.Strands.{StandsFor, StrandFits, want_of}
@@ -49,9 +57,9 @@ source_is (kinds.Source path form limit) is = record { path = path; form = form;
 source_is kind is = absurd (cc)
 
 -- fewer reads are left once more was read, or the flow ended
-fewer_reads : (limit before after : ℕ) (ended : Option Outcome) → before ≤ limit + 1 → (ended ≡ None → before < after) → after ≤ limit + 1
-    → (if is_some ended then 0 else (limit + 2) - after) < (limit + 2) - before
-fewer_reads limit before after None few more within = let grows = more refl in omega (arith, grows, within)
+fewer_reads : (limit before after : ℕ) (ended : Option Outcome) → before ≤ 2 * limit + 2 → (ended ≡ None → before < after)
+    → (ended ≡ None → after ≤ 2 * limit + 2) → (if is_some ended then 0 else (2 * limit + 3) - after) < (2 * limit + 3) - before
+fewer_reads limit before after None few more within = let grows = more refl in let bound = within refl in omega (arith, grows, bound)
 fewer_reads limit before after (Some outcome) few more within = omega (arith, few)
 
 module _ {P S K : Type 0} (plain : P → PlainPacket) (reads : S → SourceState) (writes : K → SinkState) (pipes : List Pipe) (past : ℕ → History)
@@ -134,21 +142,27 @@ module _ {P S K : Type 0} (plain : P → PlainPacket) (reads : S → SourceState
         (λ e. subst (λ (s : Strand P S K). StandsFor plain reads writes s done) (sym (here e)) stepped.step.stands)
         refl refl steps (λ k. subst (λ (ls : List (Option (Lane P))). All (IsLegalItem plain) (items_at ls k)) (sym same_lanes) (stands.legal k)) (still_pumped due)
 
+    -- while a source goes on it gave no more packets than bytes, and at most one byte past its limit
     few : (h : History) (s : Strand P S K) (pipe : Pipe) (path : List ℕ) (form : SourceForm) (limit : ℕ) → StandsFor plain reads writes s h → h.pipes ≡ pipes → h.head ≡ place
-        → slice_get pipes place ≡ Some pipe → pipe.kind ≡ kinds.Source path form limit → length h.read ≤ limit + 1
-    few h s pipe path form limit stood graph head there kind =
-        few_read_of_head reads s.intake h pipe path form limit stood.intake
-        (ap (λ (ps : List Pipe). slice_get ps h.head) graph ∙ ap (λ (n : ℕ). slice_get pipes n) head ∙ there) kind
+        → slice_get pipes place ≡ Some pipe → pipe.kind ≡ kinds.Source path form limit → h.ended ≡ None → length h.read + length h.fed ≤ 2 * limit + 2
+    few h s pipe path form limit stood graph head there kind on =
+        let at : slice_get h.pipes h.head ≡ Some pipe = ap (λ (ps : List Pipe). slice_get ps h.head) graph ∙ ap (λ (n : ℕ). slice_get pipes n) head ∙ there in
+        let read = few_read_of_head reads s.intake h pipe path form limit stood.intake at kind in
+        let first = settled_first reads s.intake h pipe stood.intake at (ap is_source kind) on in
+        let packets = first_is_shorter h.fed (settled_source_flow pipe.kind h.read) first in
+        let settled : length (settled_source_flow pipe.kind h.read) ≤ length h.read = few_carried ReadFault pipe.kind h.read (is_pipe pipes stands.shape.well place pipe there).kind in
+        omega (arith, read, packets, settled)
 
     fewer_here_of : (pipe : Pipe) → slice_get pipes place ≡ Some pipe → IsOfSource pipe.kind → reads_of done pipe.kind < reads_of before pipe.kind
     fewer_here_of pipe there of =
-        let was = few before (get_or net.strands.items i d) pipe of.path of.form of.limit (stands.strands i d within) (stands.graphs i within) (stands.places i within) there of.is in
+        let was = few before (get_or net.strands.items i d) pipe of.path of.form of.limit (stands.strands i d within) (stands.graphs i within) (stands.places i within) there of.is going in
         let is = few done strand pipe of.path of.form of.limit stepped.step.stands (stands.graphs i within) (stands.places i within) there of.is in
         let longer = length-append before.read stepped.step.read in
+        let more_fed = length-append before.fed stepped.step.fed in
         subst (λ (kind : Kind). reads_of done kind < reads_of before kind) (sym of.is)
-        (subst (λ (e : Option Outcome). reads_of done (kinds.Source of.path of.form of.limit) < (if is_some e then 0 else (of.limit + 2) - length before.read)) (sym going)
-        (fewer_reads of.limit (length before.read) (length (before.read ++ stepped.step.read)) stepped.step.ended was
-        (λ none. let more = stepped.moves none in omega (arith, longer, more)) is))
+        (subst (λ (e : Option Outcome). reads_of done (kinds.Source of.path of.form of.limit) < (if is_some e then 0 else (2 * of.limit + 3) - (length before.read + length before.fed))) (sym going)
+        (fewer_reads of.limit (length before.read + length before.fed) (length (before.read ++ stepped.step.read) + length (before.fed ++ stepped.step.fed)) stepped.step.ended was
+        (λ none. let more = stepped.moves none in omega (arith, longer, more_fed, more)) is))
 
     reads_by : (h : History) (pipe : Pipe) → slice_get pipes place ≡ Some pipe → option_map_or (λ (pipe : Pipe). reads_of h pipe.kind) (slice_get pipes place) 0 ≡ reads_of h pipe.kind
     reads_by h pipe there = ap (λ (p : Option Pipe). option_map_or (λ (pipe : Pipe). reads_of h pipe.kind) p 0) there
@@ -176,16 +190,16 @@ module _ {P S K : Type 0} (plain : P → PlainPacket) (reads : S → SourceState
     fewer_left = sum_falls (reads_at pipes later) (reads_at pipes past) (heads pipes) place (head_there pipes i within) (λ head there. no_more_reads head) fewer_here
 
     abbrev fed_by : History → ℕ → ℕ
-    fed_by h head = if passes_at is_fed pipes head then 0 else length h.fed
+    fed_by h head = if passes_at is_fed pipes head then 0 else count_with_bytes h.fed
 
-    fed_here : fed_at pipes later place ≤ fed_at pipes past place + length stepped.step.fed
+    fed_here : fed_at pipes later place ≤ fed_at pipes past place + count_with_bytes stepped.step.fed
     fed_here =
         let unfed = source_is_unfed pipes place source_here in
-        let is : fed_at pipes later place ≡ length (before.fed ++ stepped.step.fed) =
+        let is : fed_at pipes later place ≡ count_with_bytes (before.fed ++ stepped.step.fed) =
         ap (λ (h : History). fed_by h place) (now_here plain reads writes pipes past net stands new i within done)
-        ∙ ap (λ (b : Bool). if b then 0 else length (before.fed ++ stepped.step.fed)) unfed in
-        let was : fed_at pipes past place ≡ length before.fed = ap (λ (b : Bool). if b then 0 else length before.fed) unfed in
-        let longer = length-append before.fed stepped.step.fed in
+        ∙ ap (λ (b : Bool). if b then 0 else count_with_bytes (before.fed ++ stepped.step.fed)) unfed in
+        let was : fed_at pipes past place ≡ count_with_bytes before.fed = ap (λ (b : Bool). if b then 0 else count_with_bytes before.fed) unfed in
+        let longer = count_with_bytes-append before.fed stepped.step.fed in
         omega (arith, is, was, longer)
 
     fed_drawn : old.drawn + fed_in_all pipes later ≤ after.drawn + fed_in_all pipes past
@@ -193,10 +207,10 @@ module _ {P S K : Type 0} (plain : P → PlainPacket) (reads : S → SourceState
         let once : count_by (λ other. other == place) (heads pipes) ≡ 1 =
         kept_once (passes_at is_head pipes) place (length pipes) (head_within pipes place (head_there pipes i within))
         (kept_passes (passes_at is_head pipes) (places pipes) place (head_there pipes i within)) in
-        let grown = sum_grows (fed_at pipes later) (fed_at pipes past) place (length stepped.step.fed)
+        let grown = sum_grows (fed_at pipes later) (fed_at pipes past) place (count_with_bytes stepped.step.fed)
         (λ other differs. ap (λ (h : History). fed_by h other) (at_other place done past other differs)) fed_here (heads pipes) in
-        let times : count_by (λ other. other == place) (heads pipes) * length stepped.step.fed ≡ length stepped.step.fed =
-        ap (λ (n : ℕ). n * length stepped.step.fed) once ∙ omega arith in
+        let times : count_by (λ other. other == place) (heads pipes) * count_with_bytes stepped.step.fed ≡ count_with_bytes stepped.step.fed =
+        ap (λ (n : ℕ). n * count_with_bytes stepped.step.fed) once ∙ omega arith in
         let drawn = stepped.drawn in
         omega (arith, grown, times, drawn)
 

@@ -1,6 +1,6 @@
 -- A run in which memory ran out.
 use Rattle.std.specs.Prelude.{nat_lt}
-use Rattle.std.proofs.Common.{◌≡◌, ℕ, ◌+◌, ◌≤◌, List, [], ◌++◌, length, take, true, false, not, Option, Some, None, IfSome, slice_get, refl, sym, ap, ◌∙◌, arith, append-nil}
+use Rattle.std.proofs.Common.{◌≡◌, ℕ, ◌+◌, ◌≤◌, List, [], ◌++◌, length, take, true, false, not, Option, Some, None, IfSome, slice_get, refl, sym, ap, ◌∙◌, subst, arith, append-nil}
 use Rattle.std.specs.List.{Contains}
 use Rattle.std.specs.Option.{option_map_or}
 use Rattle.up_engine.proofs.HeldAfter.{AllFresh, AllStored, given_lies, left_held, refused_passes, stored_closed, told_more, untouched_closed}
@@ -11,9 +11,10 @@ use Rattle.up_engine.proofs.OpenedAndClosed.{all_entries}
 use Rattle.up_engine.proofs.PathObjects.{among_index, index_among, sink_stands, source_stands}
 use Rattle.up_engine.specs.Entries.{entries_at, path_places}
 use Rattle.up_engine.specs.Objects.{Closes, Opens, StandsAt, closed_mark, entries_refused, faults_of, has_failed, index_of, moved_told, object_at}
-use Rattle.up_engine.specs.Runs.{RanShort, held_bytes}
+use Rattle.up_engine.specs.Runs.{GaveWithin, RanShort, held_bytes}
 use Rattle.up_engine.specs.declared.object.Object.{Object}
 use Rattle.up_engine.specs.declared.opening.Opening.{Opening}
+use Rattle.up_model.proofs.Shown.{unshown_within}
 use Rattle.up_model.specs.Ends.{is_source}
 use Rattle.up_model.specs.WellFormed.{IsWellFormed}
 use Rattle.up_model.specs.declared.form.SourceForm.{SourceForm}
@@ -66,7 +67,9 @@ module _ {S K : Type 0} (reads : S → SourceState) (writes : K → SinkState) (
   gave_within : (place : ℕ) (pipe : Pipe) (path : List ℕ) (form : SourceForm) (limit : ℕ) → slice_get pipes place ≡ Some pipe
       → pipe.kind ≡ Source path form limit
       → (length (stands.given place) ≤ limit + 1) × (stands.failed place ≡ true → length (stands.given place) ≤ limit)
-  gave_within place pipe path form limit is of = rw of at (stands.within place pipe is)
+  gave_within place pipe path form limit is of =
+      let gave = subst (GaveWithin pipes (ways_given stands.given stands.failed) place) of (stands.within place pipe is) in
+      (gave.0, λ fails. unshown_within form limit (stands.given place) (gave.1 fails))
 
   -- of an opened source no close is refused, so a failure of it is a read's
   read_failed : (place : ℕ) (pipe : Pipe) → slice_get pipes place ≡ Some pipe → is_source pipe.kind ≡ true

@@ -1,13 +1,14 @@
 -- How the strands of a net ended, by the places of their heads.
-use Rattle.std.proofs.Common.{◌≡◌, ℕ, ◌+◌, ◌<◌, ◌≤◌, List, length, get_or, true, false, Some, slice_get, ap, ◌∙◌, subst, arith, inl, inr}
+use Rattle.std.proofs.Common.{◌≡◌, ℕ, ◌+◌, ◌<◌, ◌≤◌, List, length, get_or, true, false, None, Some, slice_get, ap, ◌∙◌, subst, arith, inl, inr}
 use Rattle.std.specs.List.{Contains}
 use Rattle.std.proofs.lemmas.Option.{slice_get_cases}
+use Rattle.up_base.specs.Lists.{IsPrefix}
 use Rattle.up_engine.proofs.Fillers.{head_number}
 use Rattle.up_engine.specs.Flows.{HaveEnded}
 use Rattle.up_engine.specs.Nets.{IsOver, NetStands, head_at}
 use Rattle.up_engine.specs.declared.net.Net.{Net}
 use Rattle.up_model.specs.Ends.{is_source}
-use Rattle.up_model.specs.Outcomes.{is_cause, own_outcome}
+use Rattle.up_model.specs.Outcomes.{is_cause, own_outcome, settled_source_flow, shown_of}
 use Rattle.up_model.specs.Plans.{heads}
 use Rattle.up_model.specs.declared.form.SourceForm.{SourceForm}
 use Rattle.up_model.specs.declared.kind.Kind.TheVariants.{Source}
@@ -15,17 +16,22 @@ use Rattle.up_model.specs.declared.outcome.Outcome.{Outcome}
 use Rattle.up_model.specs.declared.pipe.Pipe.{Pipe}
 use Rattle.up_model.specs.declared.plain_packet.PlainPacket.{PlainPacket}
 use Rattle.up_outside.specs.States.{SourceState, SinkState}
-use Rattle.up_strand.proofs.HeadFlows.{few_read_of_head, fewer_read_of_head, long_of_head, source_ended}
+use Rattle.up_strand.proofs.HeadFlows.{few_read_of_head, long_of_head, source_ended, unshown_at_fault}
+use Rattle.up_strand.proofs.HeadPackets.{settled_first}
 use Rattle.up_strand.proofs.LaneFlows.{ended_of_done}
 use Rattle.up_strand.specs.History.{History, head_flow}
 use Rattle.up_strand.specs.Strands.{StandsFor, ended_at_fault, want_of}
 use Rattle.up_strand.specs.declared.strand.Strand.{Strand}
 use Rattle.up_strand.specs.declared.want.Want.TheVariants.{Done}
 
--- a source gave at most one byte past its limit, and none past it where a read failed
-abbrev pub IsWithinLimit : List Pipe → ℕ → History → Type 0
-IsWithinLimit pipes head h = (pipe : Pipe) (path : List ℕ) (form : SourceForm) (limit : ℕ) → slice_get pipes head ≡ Some pipe
-    → pipe.kind ≡ Source path form limit → (length h.read ≤ limit + 1) × (ended_at_fault h.ended ≡ true → length h.read ≤ limit)
+-- the source of a head gave at most one byte past its limit; where a read failed, its bytes show no other cause; and while it goes on it
+-- put out packets that they hold whatever comes behind them
+pub record SourceStands (pipes : List Pipe) (head : ℕ) (h : History) : Type 0 where
+  pub few : (pipe : Pipe) (path : List ℕ) (form : SourceForm) (limit : ℕ) → slice_get pipes head ≡ Some pipe
+      → pipe.kind ≡ Source path form limit → length h.read ≤ limit + 1
+  pub unshown : (pipe : Pipe) → slice_get pipes head ≡ Some pipe → ended_at_fault h.ended ≡ true → shown_of pipe.kind h.read ≡ None
+  pub settled : (pipe : Pipe) → slice_get pipes head ≡ Some pipe → is_source pipe.kind ≡ true → h.ended ≡ None
+      → IsPrefix h.fed (settled_source_flow pipe.kind h.read)
 
 -- what the head of a strand was fed, and how its flow ended where it is a source
 pub record EndsAs (pipes : List Pipe) (head : ℕ) (h : History) : Type 0 where
@@ -36,7 +42,7 @@ pub record EndsAs (pipes : List Pipe) (head : ℕ) (h : History) : Type 0 where
       → h.ended ≡ Some outcome → own_outcome pipe.kind (ended_at_fault h.ended) h.read ≡ Some outcome
   pub long : (pipe : Pipe) (outcome : Outcome) → slice_get pipes head ≡ Some pipe → is_source pipe.kind ≡ true
       → h.ended ≡ Some outcome → is_cause outcome ≡ true → h.short ≡ false
-  pub within : IsWithinLimit pipes head h
+  pub gave : SourceStands pipes head h
 
 module _ {P S K : Type 0} (plain : P → PlainPacket) (reads : S → SourceState) (writes : K → SinkState) where
   ends_as : (strand : Strand P S K) (h : History) → StandsFor plain reads writes strand h → (pipes : List Pipe) (head : ℕ) → h.pipes ≡ pipes → h.head ≡ head
@@ -50,10 +56,11 @@ module _ {P S K : Type 0} (plain : P → PlainPacket) (reads : S → SourceState
         fed = stands.fed.all;
         own = λ pipe outcome long at source ended. source_ended reads strand.intake h pipe outcome stands.intake long (there pipe at) source ended;
         long = λ pipe outcome at source ended cause. long_of_head reads strand.intake h pipe outcome stands.intake (there pipe at) source ended cause;
-        within = λ pipe path form limit at kind. (
-          few_read_of_head reads strand.intake h pipe path form limit stands.intake (there pipe at) kind,
-          fewer_read_of_head reads strand.intake h pipe path form limit stands.intake (there pipe at) kind,
-        );
+        gave = record {
+          few = λ pipe path form limit at kind. few_read_of_head reads strand.intake h pipe path form limit stands.intake (there pipe at) kind;
+          unshown = λ pipe at fault. unshown_at_fault reads strand.intake h pipe stands.intake (there pipe at) fault;
+          settled = λ pipe at source on. settled_first reads strand.intake h pipe stands.intake (there pipe at) source on;
+        };
       }
 
   module _ (pipes : List Pipe) (past : ℕ → History) (net : Net P S K) (stands : NetStands plain reads writes net pipes past) where

@@ -1,6 +1,6 @@
 -- How each pipe ended is told by what the sources gave and by which calls failed; and where no pipe tells of want of memory, no strand
 -- that fills a lane met it.
-use Rattle.std.proofs.Common.{◌≡◌, ◌≢◌, ℕ, List, length, Bool, true, false, Option, Some, slice_get, refl, sym, ap, ◌∙◌, subst, inl, inr, if◌then◌else◌, cond, nat_lt}
+use Rattle.std.proofs.Common.{◌≡◌, ◌≢◌, ℕ, List, Bool, true, false, Option, Some, slice_get, refl, sym, ap, ◌∙◌, subst, inl, inr, cond}
 use Rattle.std.specs.Prelude.{option_and_then, unwrap_or}
 use Rattle.std.specs.List.{Contains}
 use Rattle.std.specs.Option.{option_map_or}
@@ -15,17 +15,17 @@ use Rattle.up_engine.specs.Flows.{AreJoined, HadMemory, HaveEnded, HeadEnds}
 use Rattle.up_engine.specs.Joins.{PlainItem}
 use Rattle.up_engine.specs.Runs.{Ways, ending}
 use Rattle.up_model.proofs.Members.{passing_pipe}
+use Rattle.up_model.proofs.Shown.{is_of_bytes, not_fault}
 use Rattle.up_model.proofs.WellFormed.{comes_to_source, input_there, there}
 use Rattle.up_model.specs.Ends.{is_sink, is_source}
 use Rattle.up_model.specs.Inputs.{source_of}
-use Rattle.up_model.specs.Outcomes.{is_cause, outcome_behind, own_at, own_outcome, source_outcome_at}
+use Rattle.up_model.specs.Outcomes.{is_cause, outcome_behind, own_at, own_outcome, source_outcome, source_outcome_at}
 use Rattle.up_model.specs.Plans.{head_of, heads, is_fed, strand_of}
 use Rattle.up_model.specs.WellFormed.{IsWellFormed}
-use Rattle.up_model.specs.declared.form.SourceForm.TheVariants.{Raw}
 use Rattle.up_model.specs.declared.kind.Kind.{Kind}
 use Rattle.up_model.specs.declared.kind.Kind.TheVariants.{Source, Sink}
 use Rattle.up_model.specs.declared.outcome.Outcome.{Outcome}
-use Rattle.up_model.specs.declared.outcome.Outcome.TheVariants.{Whole, ReadFault, TooLong, NoMemory}
+use Rattle.up_model.specs.declared.outcome.Outcome.TheVariants.{Whole, ReadFault, WriteFault, BadFrame, TooLong, Broken, NoMemory}
 use Rattle.up_model.specs.declared.pipe.Pipe.{Pipe}
 use Rattle.up_plan.proofs.OneStrand.{own_head, strand_has}
 use Rattle.up_strand.specs.History.{History, outcome_by, outcome_of_source, outcome_without, told_at}
@@ -63,14 +63,20 @@ long_of_sink (Sink path form) false short ended source none told = long_without 
 long_of_sink kind failed short ended source none told = long_without short ended told
 
 -- the outcome of a source is its own
-by_form : (over : Bool) (limit : ℕ) (outcome : Outcome) → Some (if over then TooLong limit else Whole) ≡ Some outcome → outcome_of_source false (Some outcome) ≡ outcome
-by_form true limit outcome is = subst (λ (o : Outcome). outcome_of_source false (Some o) ≡ o) (same_Some (TooLong limit) outcome is) refl
-by_form false limit outcome is = subst (λ (o : Outcome). outcome_of_source false (Some o) ≡ o) (same_Some Whole outcome is) refl
+by_bytes : (outcome : Outcome) → is_of_bytes outcome ≡ true → outcome_of_source false (Some outcome) ≡ outcome
+by_bytes Whole is = refl
+by_bytes ReadFault is = absurd (cc)
+by_bytes WriteFault is = absurd (cc)
+by_bytes (BadFrame offset) is = refl
+by_bytes (TooLong limit) is = refl
+by_bytes Broken is = absurd (cc)
+by_bytes NoMemory is = absurd (cc)
 
 own_told : (kind : Kind) (fault failed : Bool) (bytes : List ℕ) (outcome : Outcome) → is_source kind ≡ true → own_outcome kind fault bytes ≡ Some outcome
     → outcome_by kind failed false (Some outcome) ≡ outcome
-own_told (Source path (Raw block) limit) true failed bytes outcome source is = subst (λ (o : Outcome). outcome_of_source false (Some o) ≡ o) (same_Some ReadFault outcome is) refl
-own_told (Source path (Raw block) limit) false failed bytes outcome source is = by_form (nat_lt limit (length bytes)) limit outcome is
+own_told (Source path form limit) true failed bytes outcome source is = subst (λ (o : Outcome). outcome_of_source false (Some o) ≡ o) (same_Some ReadFault outcome is) refl
+own_told (Source path form limit) false failed bytes outcome source is =
+    by_bytes outcome (ap is_of_bytes (sym (same_Some (source_outcome form limit bytes) outcome is)) ∙ not_fault form limit bytes)
 own_told kind fault failed bytes outcome source is = absurd (cc)
 
 -- the outcome of any other is a write fault, or comes from behind

@@ -27,7 +27,7 @@ use Rattle.up_engine.specs.declared.results.Results.{Results}
 use Rattle.up_model.specs.Ends.{is_sink, is_source}
 use Rattle.up_model.specs.Inputs.{ends_at_source, passes_at, places}
 use Rattle.up_model.specs.Meaning.{tally_of}
-use Rattle.up_model.specs.Packet.{Flow}
+use Rattle.up_model.specs.Packet.{Flow, count_with_bytes}
 use Rattle.up_model.specs.Plans.{ends_at_sink}
 use Rattle.up_model.specs.Tallies.{greatest_sum}
 use Rattle.up_model.specs.declared.kind.Kind.{Kind}
@@ -173,7 +173,9 @@ module _ {S K F : Type 0} (reads : S → SourceState) (writes : K → SinkState)
           at.bytes,
           at.at_path,
           (first.0, first.2),
-          λ whole. gave_all (reads now.0).left at.bytes (before.given place) first.0 first.1 first.2 (now.2.whole (whole_as place whole)),
+          λ clean unshown.
+              gave_all (reads now.0).left at.bytes (before.given place) first.0 first.1 first.2
+              (now.2.all (sym (failed_before place pipe is source) ∙ clean) unshown),
         );
   }
 
@@ -266,6 +268,6 @@ module _ {S K F : Type 0} (reads : S → SourceState) (writes : K → SinkState)
         ∙ ap (λ (flows : ℕ → Flow). map (tally_of pipes flows) (places pipes)) (sym (carried_closed pipes before closes.refused of_sinks));
     tally_count = counted;
     drawn = subst (λ (flows : ℕ → Flow). store_before.drawn
-        + sum (map (λ place. length (flows place)) (filter (passes_at ends_at_source pipes) (places pipes))) ≤ store_after.drawn)
+        + sum (map (λ place. count_with_bytes (flows place)) (filter (passes_at ends_at_source pipes) (places pipes))) ≤ store_after.drawn)
         (sym (carried_closed pipes before closes.refused of_sinks)) by.drawn;
   }

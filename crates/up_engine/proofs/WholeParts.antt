@@ -12,7 +12,7 @@ use Rattle.up_model.specs.Outcomes.{outcome_behind}
 use Rattle.up_model.specs.Plans.{heads}
 use Rattle.up_model.specs.WellFormed.{IsWellFormed}
 use Rattle.up_model.specs.declared.outcome.Outcome.{Outcome}
-use Rattle.up_model.specs.declared.outcome.Outcome.TheVariants.{Whole, ReadFault, WriteFault, TooLong, Broken, NoMemory}
+use Rattle.up_model.specs.declared.outcome.Outcome.TheVariants.{Whole, ReadFault, WriteFault, BadFrame, TooLong, Broken, NoMemory}
 use Rattle.up_model.specs.declared.pipe.Pipe.{Pipe}
 use Rattle.up_queue.specs.declared.end_kind.EndKind.{EndKind}
 use Rattle.up_queue.specs.declared.end_kind.EndKind.TheVariants as ends
@@ -29,6 +29,7 @@ doing_as_before : (outcome : Outcome) → doing (Some (outcome_behind outcome)) 
 doing_as_before Whole = refl
 doing_as_before ReadFault = refl
 doing_as_before WriteFault = refl
+doing_as_before (BadFrame offset) = refl
 doing_as_before (TooLong limit) = refl
 doing_as_before Broken = refl
 doing_as_before NoMemory = refl
@@ -37,6 +38,7 @@ pub behind_twice : (outcome : Outcome) → outcome_behind (outcome_behind outcom
 behind_twice Whole = refl
 behind_twice ReadFault = refl
 behind_twice WriteFault = refl
+behind_twice (BadFrame offset) = refl
 behind_twice (TooLong limit) = refl
 behind_twice Broken = refl
 behind_twice NoMemory = refl
@@ -45,6 +47,7 @@ whole_behind : (outcome : Outcome) → end_by false (Some outcome) ≡ ends.Whol
 whole_behind Whole is = refl
 whole_behind ReadFault is = absurd (cc)
 whole_behind WriteFault is = absurd (cc)
+whole_behind (BadFrame offset) is = absurd (cc)
 whole_behind (TooLong limit) is = absurd (cc)
 whole_behind Broken is = absurd (cc)
 whole_behind NoMemory is = absurd (cc)
@@ -53,6 +56,7 @@ broken_behind : (outcome : Outcome) → end_by false (Some outcome) ≡ ends.Bro
 broken_behind Whole is = absurd (cc)
 broken_behind ReadFault is = refl
 broken_behind WriteFault is = refl
+broken_behind (BadFrame offset) is = refl
 broken_behind (TooLong limit) is = refl
 broken_behind Broken is = refl
 broken_behind NoMemory is = refl
@@ -67,6 +71,7 @@ is_told None lane some = absurd (cc)
 is_told (Some Whole) lane some = (ends.Whole, record { come = refl; tells = whole_behind })
 is_told (Some ReadFault) lane some = absurd lane
 is_told (Some WriteFault) lane some = absurd lane
+is_told (Some (BadFrame offset)) lane some = absurd lane
 is_told (Some (TooLong limit)) lane some = absurd lane
 is_told (Some Broken) lane some = (ends.Broken, record { come = refl; tells = broken_behind })
 is_told (Some NoMemory) lane some = absurd lane

@@ -1,6 +1,6 @@
 -- What the strands of a graph carried, by its pipes and by what each source and sink tells before
 -- and after.
-use Rattle.std.specs.Prelude.{◌≡◌, ◌≢◌, ℕ, ◌+◌, ◌≤◌, ◌<◌, List, length, map, sum, min, slice_get, slice_index_or, Bool, true, false, Some}
+use Rattle.std.specs.Prelude.{◌≡◌, ◌≢◌, ℕ, ◌+◌, ◌≤◌, ◌<◌, List, length, map, sum, min, slice_get, slice_index_or, Bool, true, false, Some, None}
 use Rattle.std.specs.Io.KnownBytes.{Appends, IsAtEnd}
 use Rattle.std.specs.List.{filter}
 use Rattle.up_base.specs.Lists.{IsPrefix}
@@ -13,7 +13,8 @@ use Rattle.up_engine.specs.declared.results.Results.{Results}
 use Rattle.up_model.specs.Ends.{is_source}
 use Rattle.up_model.specs.Inputs.{ends_at_source, passes_at, places}
 use Rattle.up_model.specs.Meaning.{sink_bytes, tally_of}
-use Rattle.up_model.specs.Outcomes.{source_flows}
+use Rattle.up_model.specs.Outcomes.{shown_of, source_flows}
+use Rattle.up_model.specs.Packet.{count_with_bytes}
 use Rattle.up_model.specs.Tallies.{greatest_sum}
 use Rattle.up_model.specs.declared.outcome.Outcome.{Outcome}
 use Rattle.up_model.specs.declared.outcome.Outcome.TheVariants as outcomes
@@ -39,11 +40,13 @@ module _ {S K : Type 0} (reads : S → SourceState) (writes : K → SinkState) (
   is_now place = object_at after place
 
   module _ (ways : Ways) where
-    -- the source gave these bytes, and all where it ended whole
+    -- the source gave these bytes; and all where no read failed and they show no outcome whatever
+    -- comes behind them
     pub record SourceGave (place : ℕ) (pipe : Pipe) (old new : S) : Type 0 where
       pub took : WereRead (reads old) (reads new) (ways.given place) (length (ways.given place))
       pub faults : CountsWhere (ways.failed place) (reads old).faults (reads new).faults
-      pub whole : ending pipes ways place ≡ outcomes.Whole → IsAtEnd (reads new).left
+      pub all : ways.failed place ≡ false → shown_of pipe.kind (ways.given place) ≡ None
+          → IsAtEnd (reads new).left
       pub within : GaveWithin pipes ways place pipe.kind
 
     -- the sink was given what is due to it, or the first of that where a write failed
@@ -72,7 +75,7 @@ module _ {S K : Type 0} (reads : S → SourceState) (writes : K → SinkState) (
           ≡ min (length (carried pipes ways place)) greatest_sum
       pub sums : ((place : ℕ) → place < length pipes → ending pipes ways place ≡ outcomes.Whole)
           → results.tallies.items ≡ map (tally_of pipes (carried pipes ways)) (places pipes)
-      pub drawn : store_before.drawn + sum (map (λ place. length (carried pipes ways place))
+      pub drawn : store_before.drawn + sum (map (λ place. count_with_bytes (carried pipes ways place))
           (filter (passes_at ends_at_source pipes) (places pipes))) ≤ store_after.drawn
 
   abbrev pub CarriedThrough : {F : Type 0} → Results → StoreState F → StoreState F → Type 0

@@ -7,6 +7,7 @@ use Rattle.up_engine.specs.declared.net.Net.{Net}
 use Rattle.up_engine.specs.declared.net.Turn.{Turn}
 use Rattle.up_engine.specs.declared.net.Turn.TheVariants.{Read, Moved, Done}
 use Rattle.up_model.specs.Inputs.{passes_at, source_of}
+use Rattle.up_model.specs.Packet.{count_with_bytes}
 use Rattle.up_model.specs.Plans.{heads, is_fed, lane_length, lanes}
 use Rattle.up_model.specs.WellFormed.{IsWellFormed}
 use Rattle.up_model.specs.declared.kind.Kind.{Kind}
@@ -111,23 +112,24 @@ module _ {P S K : Type 0} (plain : P → PlainPacket) (reads : S → SourceState
   abbrev pub NetStandsForSome : Net P S K → Type 0
   NetStandsForSome net = (pipes : List Pipe) × (past : ℕ → History) × NetStands net pipes past
 
--- what a source may still give, with its end
+-- how many more bytes and packets a source may give, and its end
 abbrev pub reads_of : History → Kind → ℕ
 reads_of h (Source path form limit) =
-    if is_some h.ended then 0 else (limit + 2) - length h.read
+    if is_some h.ended then 0 else (2 * limit + 3) - (length h.read + length h.fed)
 reads_of h kind = 0
 
 module _ (pipes : List Pipe) (past : ℕ → History) where
   abbrev pub reads_at : ℕ → ℕ
   reads_at head = option_map_or (λ pipe. reads_of (past head) pipe.kind) (slice_get pipes head) 0
 
-  -- how many more bytes and ends the sources may give
+  -- how many more bytes, packets and ends the sources may give
   abbrev pub reads_left : ℕ
   reads_left = sum (map reads_at (heads pipes))
 
-  -- how many packets the sources put out
+  -- how many packets with bytes the sources put out
   abbrev pub fed_at : ℕ → ℕ
-  fed_at head = if passes_at is_fed pipes head then 0 else length (past head).fed
+  fed_at head =
+      if passes_at is_fed pipes head then 0 else count_with_bytes (past head).fed
 
   abbrev pub fed_in_all : ℕ
   fed_in_all = sum (map fed_at (heads pipes))
@@ -175,7 +177,8 @@ pub record GoesOn (before after : History) : Type 0 where
 
 module _ {P S K : Type 0} (plain : P → PlainPacket) (reads : S → SourceState)
     (writes : K → SinkState) (pipes : List Pipe) (past : ℕ → History) where
-  -- what the strands did goes on; what was fed by then was drawn of the store
+  -- what the strands did goes on; for each packet with bytes that was fed by then, more was drawn of
+  -- the store
   pub record Went {F : Type 0} (net : Net P S K) (old new : StoreState F) : Type 0 where
     pub now : ℕ → History
     pub stands : NetStands plain reads writes net pipes now

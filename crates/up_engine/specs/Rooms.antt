@@ -35,6 +35,7 @@ abbrev pub is_no_memory : Outcome → Bool
 is_no_memory outcomes.Whole = false
 is_no_memory outcomes.ReadFault = false
 is_no_memory outcomes.WriteFault = false
+is_no_memory (outcomes.BadFrame offset) = false
 is_no_memory (outcomes.TooLong limit) = false
 is_no_memory outcomes.Broken = false
 is_no_memory outcomes.NoMemory = true

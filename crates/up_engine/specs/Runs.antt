@@ -1,6 +1,6 @@
 -- What a run of a graph leaves, from the first open of a path to the last close: by the pipes of
 -- the graph, by what the depot tells, and by one outcome for each pipe.
-use Rattle.std.specs.Prelude.{◌≡◌, ◌⊎◌, ℕ, ◌+◌, ◌<◌, ◌≤◌, ◌++◌, ◌==◌, ◌&&◌, ◌||◌, List, [], ◌∷◌, length, map, take, drop, sum, min, slice_get, slice_index_or, count_by, Bool, true, false, not, Some, IfSome, unwrap_or, option_and_then, if◌then◌else◌}
+use Rattle.std.specs.Prelude.{◌≡◌, ◌⊎◌, ℕ, ◌+◌, ◌<◌, ◌≤◌, ◌++◌, ◌==◌, ◌&&◌, ◌||◌, List, [], ◌∷◌, length, map, take, drop, sum, min, slice_get, slice_index_or, count_by, Bool, true, false, not, Some, None, IfSome, unwrap_or, option_and_then, if◌then◌else◌}
 use Rattle.std.specs.FinMap.{get}
 use Rattle.std.specs.List.{Contains, filter}
 use Rattle.std.specs.Option.{option_map_or}
@@ -12,8 +12,8 @@ use Rattle.up_engine.specs.declared.run_outcome.RunOutcome.TheVariants.{Ended, N
 use Rattle.up_model.specs.Ends.{is_sink, is_source, path_of}
 use Rattle.up_model.specs.Inputs.{ends_at_source, passes_at, places}
 use Rattle.up_model.specs.Meaning.{settled_bytes, sink_bytes, tally_of}
-use Rattle.up_model.specs.Outcomes.{carried_flows, outcome_at, source_flows, source_outcome_at}
-use Rattle.up_model.specs.Packet.{Flow}
+use Rattle.up_model.specs.Outcomes.{carried_flows, outcome_at, shown_by, shown_of, source_flows, source_outcome_at}
+use Rattle.up_model.specs.Packet.{Flow, count_with_bytes}
 use Rattle.up_model.specs.Plans.{ends_at_sink}
 use Rattle.up_model.specs.Tallies.{greatest_sum, nothing}
 use Rattle.up_model.specs.declared.form.SourceForm.{SourceForm}
@@ -37,6 +37,7 @@ abbrev pub is_read_fault : Outcome → Bool
 is_read_fault outcomes.Whole = false
 is_read_fault outcomes.ReadFault = true
 is_read_fault outcomes.WriteFault = false
+is_read_fault (outcomes.BadFrame offset) = false
 is_read_fault (outcomes.TooLong limit) = false
 is_read_fault outcomes.Broken = false
 is_read_fault outcomes.NoMemory = false
@@ -45,6 +46,7 @@ abbrev pub is_write_fault : Outcome → Bool
 is_write_fault outcomes.Whole = false
 is_write_fault outcomes.ReadFault = false
 is_write_fault outcomes.WriteFault = true
+is_write_fault (outcomes.BadFrame offset) = false
 is_write_fault (outcomes.TooLong limit) = false
 is_write_fault outcomes.Broken = false
 is_write_fault outcomes.NoMemory = false
@@ -76,6 +78,7 @@ module _ (pipes : List Pipe) (ways : Ways) where
   due_of outcomes.Whole sink = sink_bytes pipes carried sink
   due_of outcomes.ReadFault sink = settled_bytes pipes carried sink
   due_of outcomes.WriteFault sink = settled_bytes pipes carried sink
+  due_of (outcomes.BadFrame offset) sink = settled_bytes pipes carried sink
   due_of (outcomes.TooLong limit) sink = settled_bytes pipes carried sink
   due_of outcomes.Broken sink = settled_bytes pipes carried sink
   due_of outcomes.NoMemory sink = settled_bytes pipes carried sink
@@ -83,13 +86,14 @@ module _ (pipes : List Pipe) (ways : Ways) where
   abbrev pub due_at : ℕ → Pipe → List ℕ
   due_at place sink = due_of (source_outcome_at pipes ways.failed ways.given place) sink
 
-  -- a source gave the first of the bytes at its path, and all of them where it is whole; past its
-  -- limit one byte at most
+  -- a source gave the first of the bytes at its path; and all of them where no read failed and they
+  -- show no outcome whatever comes behind them
   pub record Gave (held : Held) (place : ℕ) (pipe : Pipe) : Type 0 where
     pub there : (path : List ℕ) → path_of pipe.kind ≡ Some path
         → (bytes : List ℕ) × (get held path ≡ Some bytes)
         × IsPrefix (ways.given place) bytes
-        × (ending place ≡ outcomes.Whole → ways.given place ≡ bytes)
+        × (ways.failed place ≡ false → shown_of pipe.kind (ways.given place) ≡ None
+        → ways.given place ≡ bytes)
 
   -- a sink whose close was Ok lies at its path: all that is due to it, or the first of that where a
   -- write failed
@@ -110,10 +114,11 @@ module _ (pipes : List Pipe) (ways : Ways) where
       option_map_or (λ (pipe : Pipe). is_such pipe.kind) (slice_get pipes place) false
       && ways.failed place) (places pipes)
 
-  -- a source gave at most one byte past its limit, and none past it where a read failed
+  -- a source gave at most one byte past its limit; where a read failed, its bytes show no other
+  -- cause, so none past the limit
   abbrev pub GaveWithin : ℕ → Kind → Type 0
   GaveWithin place (Source path form limit) = (length (ways.given place) ≤ limit + 1)
-      × (ways.failed place ≡ true → length (ways.given place) ≤ limit)
+      × (ways.failed place ≡ true → shown_by form limit (ways.given place) ≡ None)
   GaveWithin place kind = Unit {0}
 
   -- all paths were opened, and all flows came to their ends
@@ -144,9 +149,9 @@ module _ (pipes : List Pipe) (ways : Ways) where
     pub sums : ((place : ℕ) → place < length pipes → ending place ≡ outcomes.Whole)
         → tallies ≡ map (tally_of pipes carried) (places pipes)
     pub tally_count : length tallies ≡ length pipes
-    -- all that they put out was drawn of the store
+    -- for each packet with bytes that they put out, more was drawn of the store
     pub drawn : store_before.drawn
-        + sum (map (λ place. length (carried place))
+        + sum (map (λ place. count_with_bytes (carried place))
         (filter (passes_at ends_at_source pipes) (places pipes)))
         ≤ store_after.drawn
 
