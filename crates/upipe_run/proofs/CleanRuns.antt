@@ -199,7 +199,7 @@ module _ (path : List ℕ) (old new : Seen) where
   clean_by (endings.Faulty (faults.Read name)) status causes tells zero = absurd (no_zero status 4 (told_status tells) (omega arith) zero)
   clean_by (endings.Faulty (faults.Write name)) status causes tells zero = absurd (no_zero status 5 (told_status tells) (omega arith) zero)
   clean_by (endings.Faulty faults.WriteReport) status causes tells zero = absurd causes
-  clean_by (endings.Faulty (faults.BadFrame name offset)) status causes tells zero = absurd causes
+  clean_by (endings.Faulty (faults.BadFrame name offset)) status causes tells zero = absurd (no_zero status 6 (told_status tells) (omega arith) zero)
   clean_by (endings.Faulty (faults.TooLong name limit)) status causes tells zero = absurd (no_zero status 8 (told_status tells) (omega arith) zero)
 
   pub are_clean : (status : ℕ) → Runs path old new status → status ≡ 0 → RanClean path old.depot new.depot

@@ -12,7 +12,7 @@ use Rattle.up_model.proofs.WellFormed.{there}
 use Rattle.up_model.specs.Inputs.{places}
 use Rattle.up_model.specs.Outcomes.{deciding, is_cause}
 use Rattle.up_model.specs.declared.outcome.Outcome.{Outcome}
-use Rattle.up_model.specs.declared.outcome.Outcome.TheVariants.{Whole, ReadFault, WriteFault, TooLong, Broken, NoMemory}
+use Rattle.up_model.specs.declared.outcome.Outcome.TheVariants.{Whole, ReadFault, WriteFault, BadFrame, TooLong, Broken, NoMemory}
 use Rattle.up_model.specs.declared.pipe.Pipe.{Pipe}
 use Rattle.upipe_run.specs.Endings.{ending_by, ending_told}
 use Rattle.upipe_run.specs.declared.ending.Ending.TheVariants as endings
@@ -36,6 +36,7 @@ cause_told : (pipe : Pipe) (outcome : Outcome) → is_cause outcome ≡ true →
 cause_told pipe Whole cause told = absurd (cc)
 cause_told pipe ReadFault cause told = cc
 cause_told pipe WriteFault cause told = cc
+cause_told pipe (BadFrame offset) cause told = cc
 cause_told pipe (TooLong limit) cause told = cc
 cause_told pipe Broken cause told = absurd (cc)
 cause_told pipe NoMemory cause told = absurd (cc)

@@ -12,19 +12,21 @@ use Rattle.up_engine.specs.Runs.{Gave, Ways, carried, due_at, due_of, ending, he
 use Rattle.up_model.proofs.Carried.{carried_is_first}
 use Rattle.up_model.proofs.GraphFlows.{so_far-wholly}
 use Rattle.up_model.proofs.GrownBytes.{sink_bytes_grow}
+use Rattle.up_model.proofs.Shown.{whole_unshown}
 use Rattle.up_model.proofs.WellFormed.{are_bounded, comes_to_source, is_pipe}
 use Rattle.up_model.specs.Ends.{is_sink, is_source, path_of}
 use Rattle.up_model.specs.Inputs.{source_of}
 use Rattle.up_model.specs.Meaning.{settled_bytes, sink_bytes, so_far, wholly}
-use Rattle.up_model.specs.Outcomes.{carried_as, outcome_behind, own_at, own_outcome, settled_source_flow, source_flow, source_flows, source_outcome_at}
+use Rattle.up_model.specs.Outcomes.{carried_as, is_cause, outcome_behind, own_at, own_outcome, settled_source_flow, shown_of, source_flow, source_flows, source_outcome_at}
 use Rattle.up_model.specs.Packet.{Flow}
 use Rattle.up_model.specs.WellFormed.{IsWellFormed}
 use Rattle.up_model.specs.declared.kind.Kind.{Kind}
 use Rattle.up_model.specs.declared.kind.Kind.TheVariants.{Source}
 use Rattle.up_model.specs.declared.outcome.Outcome.{Outcome}
-use Rattle.up_model.specs.declared.outcome.Outcome.TheVariants.{Whole, ReadFault, WriteFault, TooLong, Broken, NoMemory}
+use Rattle.up_model.specs.declared.outcome.Outcome.TheVariants.{Whole, ReadFault, WriteFault, BadFrame, TooLong, Broken, NoMemory}
 use Rattle.up_model.specs.declared.pipe.Pipe.{Pipe}
 use Rattle.up_outside.specs.Held.{Held}
+use Rattle.upipe_run.proofs.WholeRuns.{source_clean}
 
 -- a pipe that is no source carries nothing of its own
 no_flow : (kind : Kind) (bytes : List ℕ) → is_source kind ≡ false → source_flow kind bytes ≡ []
@@ -38,6 +40,7 @@ no_settled_flow kind bytes none = refl
 nothing_carried : (ends : Outcome) (kind : Kind) (bytes : List ℕ) → is_source kind ≡ false → carried_as ends kind bytes ≡ []
 nothing_carried Whole kind bytes none = no_flow kind bytes none
 nothing_carried ReadFault kind bytes none = no_settled_flow kind bytes none
+nothing_carried (BadFrame offset) kind bytes none = no_settled_flow kind bytes none
 nothing_carried (TooLong limit) kind bytes none = no_settled_flow kind (take limit bytes) none
 nothing_carried WriteFault kind bytes none = no_settled_flow kind bytes none
 nothing_carried Broken kind bytes none = no_settled_flow kind bytes none
@@ -94,7 +97,10 @@ module _ (pipes : List Pipe) (well : IsWellFormed pipes) (ways : Ways) (held : H
       record {
         rest = gives.2.0;
         all = held_is held pipes place pipe path gives.0 at (rw is refl) gives.1 ∙ gives.2.1;
-        none = λ whole. nothing_left (ways.given place) gives.2.0 gives.0 gives.2.1 (gives.3 whole);
+        none = λ whole.
+            let clean = source_clean path form limit (ways.failed place) (ways.given place) _ (rw (at, is) at (ap is_cause whole)) in
+            let unshown : shown_of pipe.kind (ways.given place) ≡ None = rw is (whole_unshown form limit (ways.given place) clean.1) in
+            nothing_left (ways.given place) gives.2.0 gives.0 gives.2.1 (gives.3 clean.0 unshown);
       }
   gives_at place pipe at kind is source = absurd (cc)
 
@@ -159,6 +165,7 @@ module _ (pipes : List Pipe) (well : IsWellFormed pipes) (ways : Ways) (held : H
     due_by Whole is = whole_first is
     due_by ReadFault is = settled_first
     due_by WriteFault is = settled_first
+    due_by (BadFrame offset) is = settled_first
     due_by (TooLong limit) is = settled_first
     due_by Broken is = settled_first
     due_by NoMemory is = settled_first

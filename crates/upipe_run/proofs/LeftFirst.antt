@@ -47,7 +47,7 @@ then_told : {X : Type 0} (R : X → X → Type 0) (a b : Option X) (x y : X) →
 then_told R a b x y is also change = rw (is, also) at change
 
 -- what is told stays told
-then_between : {X : Type 0} (R : X → X → Type 0) (a b : Option X) (x : X) → a ≡ Some x → Then R a b → (y : X) × (b ≡ Some y) × R x y
+pub then_between : {X : Type 0} (R : X → X → Type 0) (a b : Option X) (x : X) → a ≡ Some x → Then R a b → (y : X) × (b ≡ Some y) × R x y
 then_between R a None x is one = absurd (rw is at one)
 then_between R a (Some y) x is one = (y, refl, rw is at one)
 
@@ -208,7 +208,7 @@ module _ (path : List ℕ) (old new : DepotState) (before after : Held) (told : 
   of_ending (endings.Faulty (faults.Read pipe)) causes = of_ran _ causes
   of_ending (endings.Faulty (faults.Write pipe)) causes = of_ran _ causes
   of_ending (endings.Faulty faults.WriteReport) causes = absurd causes
-  of_ending (endings.Faulty (faults.BadFrame pipe offset)) causes = absurd causes
+  of_ending (endings.Faulty (faults.BadFrame pipe offset)) causes = of_ran _ causes
   of_ending (endings.Faulty (faults.TooLong pipe limit)) causes = of_ran _ causes
   of_ending endings.NoMemory (inl (inl read)) = of_file _ read
   of_ending endings.NoMemory (inl (inr read)) = of_file _ read

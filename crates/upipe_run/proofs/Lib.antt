@@ -6,6 +6,8 @@ pub mod Deciding
 pub mod Drained
 pub mod DueFirst
 pub mod Entries
+pub mod FirstTold
+pub mod GivenBytes
 pub mod LeftFirst
 pub mod Parts
 pub mod RanFiles

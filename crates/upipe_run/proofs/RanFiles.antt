@@ -60,6 +60,7 @@ module _ (path : List ℕ) (old new : DepotState) where
   ran_by pipe outcomes.Whole ran = ran
   ran_by pipe outcomes.ReadFault ran = ran
   ran_by pipe outcomes.WriteFault ran = ran
+  ran_by pipe (outcomes.BadFrame offset) ran = ran
   ran_by pipe (outcomes.TooLong limit) ran = ran
   ran_by pipe outcomes.Broken ran = ran
   ran_by pipe outcomes.NoMemory ran = ran

@@ -1,21 +1,18 @@
 -- What follows of what a run does.
-use Rattle.std.proofs.Common.{◌≡◌, ◌⊎◌, inl, inr, ℕ, ◌<◌, List, [], ◌∷◌, length, map, true, false, slice_get, Option, Some, None, IfSome, Result, Ok, Err, refl, sym, ap, subst, ◌∙◌, arith, append_assoc, length-append}
+use Rattle.std.proofs.Common.{◌≡◌, ◌⊎◌, inl, inr, ℕ, ◌<◌, List, [], ◌∷◌, length, map, true, false, slice_get, Option, Some, None, IfSome, Result, Ok, Err, refl, sym, ap, subst, ◌∙◌, arith, append_assoc}
 use Rattle.std.specs.FinMap.{get}
 use Rattle.std.specs.List.{All, Contains}
-use Rattle.std.proofs.lemmas.Bool.{lt-ltb}
 use Rattle.std.proofs.lemmas.List.Elements.{All-contains, All-contains_itself, All-weaker, All-head, All-tail}
-use Rattle.up_base.specs.Lists.{IsPrefix}
 use Rattle.up_engine.specs.Entries.{entries_at, entry_at, path_places}
-use Rattle.up_engine.specs.Runs.{Marked, Ways}
+use Rattle.up_engine.specs.Runs.{Gave, Marked, Ways}
 use Rattle.up_graph.specs.Graph.{graph_of}
 use Rattle.up_graph.specs.declared.graph_refused.GraphRefused.{GraphRefused}
 use Rattle.up_graph.specs.declared.graph_refused.GraphRefused.TheVariants as refusals
 use Rattle.up_model.proofs.WellFormed.{there}
-use Rattle.up_model.specs.declared.form.SourceForm.{SourceForm}
-use Rattle.up_model.specs.declared.form.SourceForm.TheVariants.{Raw}
+use Rattle.up_model.specs.Ends.{is_source}
+use Rattle.up_model.specs.Outcomes.{is_cause}
 use Rattle.up_model.specs.declared.graph.Graph.{Graph}
-use Rattle.up_model.specs.declared.kind.Kind.{Kind}
-use Rattle.up_model.specs.declared.kind.Kind.TheVariants.{Source}
+use Rattle.up_model.specs.declared.outcome.Outcome.{Outcome}
 use Rattle.up_model.specs.declared.outcome.Outcome.TheVariants as outcomes
 use Rattle.up_model.specs.declared.pipe.Pipe.{Pipe}
 use Rattle.up_outside.specs.Asked.{entry}
@@ -28,16 +25,18 @@ use Rattle.up_outside.specs.declared.asked.Side.TheVariants as sides
 use Rattle.up_report.specs.Faults.{status_of}
 use Rattle.up_report.specs.declared.fault.Fault.TheVariants as faults
 use Rattle.upipe_run.specs.Endings.{IsOfText}
+use Rattle.upipe_run.specs.FirstCauses.{ComesFirst}
 use Rattle.upipe_run.specs.Laws.{AsksAll, Completes, IsRunStatus, OpensAll, SettlesStatus}
 use Rattle.upipe_run.specs.Runs.{HasCauses, HasGraph, HasNoGraph, RanFile, Runs}
 use Rattle.upipe_run.specs.Seen.{Seen}
 use Rattle.upipe_run.specs.Tells.{TellsEnding}
-use Rattle.upipe_run.specs.WholeOutput.{IsWholeSource, CanComplete}
+use Rattle.upipe_run.specs.WholeOutput.{CanComplete}
 use Rattle.upipe_run.specs.declared.ending.Ending.{Ending}
 use Rattle.upipe_run.specs.declared.ending.Ending.TheVariants.{Whole, Faulty, NoMemory}
 use Rattle.up_outside.proofs.Told.{Then-map, Then-trans, always}
-use Rattle.upipe_run.proofs.Decided.{ran_long, read_rose, write_rose}
+use Rattle.upipe_run.proofs.Decided.{RanTold, ran_bad, ran_long, read_rose, write_rose}
 use Rattle.upipe_run.proofs.Drained.{told_status}
+use Rattle.upipe_run.proofs.GivenBytes.{has_outcome, not_whole_too, whole_by}
 use Rattle.upipe_run.proofs.RanFiles.{WentThrough, paths_within, whole_through}
 
 same_bytes : (a b : List ℕ) → Some a ≡ Some b → a ≡ b
@@ -56,7 +55,7 @@ one_graph before path text graph other has at reads =
     same_graph graph other (sym has.reads ∙ ap graph_of same ∙ reads)
 
 -- the text has a graph and has none
-not_both : (before : Held) (path text : List ℕ) (graph : Graph) (refusal : GraphRefused) → HasGraph before path graph → get before path ≡ Some text → graph_of text ≡ Err refusal → ⊥
+pub not_both : (before : Held) (path text : List ℕ) (graph : Graph) (refusal : GraphRefused) → HasGraph before path graph → get before path ≡ Some text → graph_of text ≡ Err refusal → ⊥
 not_both before path text graph refusal has at refused =
     let same : has.text ≡ text = same_bytes has.text text (sym has.at_path ∙ at) in
     ok_is_no_refusal graph refusal (sym has.reads ∙ ap graph_of same ∙ refused)
@@ -64,16 +63,6 @@ not_both before path text graph refusal has at refused =
 not_refused : (before : Held) (path : List ℕ) (refusal : GraphRefused) → HasNoGraph before path refusal → CanComplete before path → ⊥
 not_refused before path refusal none can =
     not_both before path none.text can.graph none.first (record { text = can.text; at_path = can.at_path; reads = can.reads }) none.at_path none.refused
-
--- a source gave more than its limit of bytes that are within it
-source_not_long : (before : Held) (kind : Kind) (path bytes given : List ℕ) (form : SourceForm) (limit : ℕ) → kind ≡ Source path form limit → get before path ≡ Some bytes
-    → IsPrefix given bytes → limit < length given → IsWholeSource before kind → ⊥
-source_not_long before kind path bytes given (Raw block) limit is at prefix long whole =
-    let here = rw is at whole in
-    let same : here.0 ≡ bytes = same_bytes here.0 bytes (sym here.1 ∙ at) in
-    let more : limit < length bytes = omega (arith, long, ap length prefix.1, length-append given prefix.0) in
-    let wrong : outcomes.TooLong limit ≡ outcomes.Whole = rw (lt-ltb limit (length bytes) more) at (rw same at here.2) in
-    cc
 
 -- what is so of what is told
 pub of_told : (P : Held → Type 0) (held : Option Held) (before : Held) → held ≡ Some before → IfSome held P → P before
@@ -109,18 +98,32 @@ module _ (pipes : List Pipe) (ways : Ways) (marks : ℕ → Mark) where
 
 module _ (path : List ℕ) (old new : Seen) where
   -- the counts after the graph file was read are those before
-  read_before : (ending : Ending) (ran : RanFile path old.depot new.depot ending) → (ran.mid.source_faults ≡ old.depot.source_faults) × (ran.mid.sink_faults ≡ old.depot.sink_faults)
+  pub read_before : (ending : Ending) (ran : RanFile path old.depot new.depot ending) → (ran.mid.source_faults ≡ old.depot.source_faults) × (ran.mid.sink_faults ≡ old.depot.sink_faults)
   read_before ending ran = (ran.read.counts.sources.stays refl, ran.read.counts.sinks.stays refl)
 
-  -- no source is too long
-  none_long : (before : Held) (name : List ℕ) (limit : ℕ) → old.depot.held ≡ Some before → RanFile path old.depot new.depot (Faulty (faults.TooLong name limit)) → CanComplete before path → ⊥
-  none_long before name limit told ran can =
-      let long = ran_long ran.graph.pipes ran.mid new.depot ran.drew ran.draws ran.outcome ran.ran name limit ran.so in
-      let same : ran.graph ≡ can.graph = one_graph before path can.text ran.graph can.graph (rw told at ran.of_text) can.at_path can.reads in
-      let gave = of_told _ ran.mid.held before (ran.read.held ∙ told) long.run.through.gave long.place long.pipe long.at (rw long.source.is refl) in
-      let gives = gave.there long.source.path (rw long.source.is refl) in
-      source_not_long before long.pipe.kind long.source.path gives.0 (long.run.ways.given long.place) long.source.form limit long.source.is gives.1 gives.2 long.source.long
-      (can.so long.place long.pipe (ap (λ (g : Graph). slice_get g.pipes long.place) (sym same) ∙ long.at))
+  -- what a source gave that stands in a run that went through
+  gave_at : (before : Held) (ending : Ending) → old.depot.held ≡ Some before → (ran : RanFile path old.depot new.depot ending)
+      → (run : WentThrough ran.graph.pipes ran.mid new.depot ran.drew ran.draws) (place : ℕ) (pipe : Pipe) → slice_get ran.graph.pipes place ≡ Some pipe
+      → is_source pipe.kind ≡ true → Gave ran.graph.pipes run.ways before place pipe
+  gave_at before ending holds ran run place pipe at source = of_told _ ran.mid.held before (ran.read.held ∙ holds) run.through.gave place pipe at source
+
+  -- the source that is told comes first with its outcome
+  pub told_first : (before : Held) (ending : Ending) (name : List ℕ) (told : Outcome) → old.depot.held ≡ Some before → (ran : RanFile path old.depot new.depot ending)
+      → (by : RanTold ran.graph.pipes ran.mid new.depot ran.drew ran.draws name told) → ComesFirst before ran.graph.pipes by.place by.pipe told
+  told_first before ending name told holds ran by = record {
+    stands = by.at;
+    source = has_outcome ran.graph.pipes by.run.ways before by.place by.pipe by.at (gave_at before ending holds ran by.run by.place by.pipe by.at) told by.source;
+    earlier = λ other one below there.
+        whole_by ran.graph.pipes by.run.ways before other one there (gave_at before ending holds ran by.run other one there) one.kind refl (by.earlier other one below there);
+  }
+
+  -- then not every source is whole
+  none_told : (before : Held) (ending : Ending) (name : List ℕ) (told : Outcome) → is_cause told ≡ true → old.depot.held ≡ Some before
+      → (ran : RanFile path old.depot new.depot ending) → RanTold ran.graph.pipes ran.mid new.depot ran.drew ran.draws name told → CanComplete before path → ⊥
+  none_told before ending name told cause holds ran by can =
+      let same : ran.graph ≡ can.graph = one_graph before path can.text ran.graph can.graph (rw holds at ran.of_text) can.at_path can.reads in
+      let first = told_first before ending name told holds ran by in
+      not_whole_too before by.pipe.kind told first.source cause (can.so by.place by.pipe (ap (λ (g : Graph). slice_get g.pipes by.place) (sym same) ∙ by.at))
 
   -- where nothing failed, a run that isn't whole lacked memory
   lacks_memory : (before : Held) (ending : Ending) (status : ℕ) → old.depot.held ≡ Some before → HasCauses path old.depot new.depot ending → TellsEnding old.err new.err ending status
@@ -135,11 +138,15 @@ module _ (path : List ℕ) (old new : Seen) where
   lacks_memory before (Faulty (faults.Write name)) status told causes tells can sources sinks =
       absurd (sinks (rw (read_before _ causes).1 at (write_rose causes.graph.pipes causes.mid new.depot causes.drew causes.draws causes.outcome causes.ran name causes.so)))
   lacks_memory before (Faulty faults.WriteReport) status told causes tells can sources sinks = absurd causes
-  lacks_memory before (Faulty (faults.BadFrame name offset)) status told causes tells can sources sinks = absurd causes
-  lacks_memory before (Faulty (faults.TooLong name limit)) status told causes tells can sources sinks = absurd (none_long before name limit told causes can)
+  lacks_memory before (Faulty (faults.BadFrame name offset)) status told causes tells can sources sinks =
+      absurd (none_told before _ name (outcomes.BadFrame offset) refl told causes
+      (ran_bad causes.graph.pipes causes.mid new.depot causes.drew causes.draws causes.outcome causes.ran name offset causes.so) can)
+  lacks_memory before (Faulty (faults.TooLong name limit)) status told causes tells can sources sinks =
+      absurd (none_told before _ name (outcomes.TooLong limit) refl told causes
+      (ran_long causes.graph.pipes causes.mid new.depot causes.drew causes.draws causes.outcome causes.ran name limit causes.so) can)
 
   -- what is so where it is told what is held
-  where_held : (P : Held → Type 0) → ((before : Held) → old.depot.held ≡ Some before → P before) → IfSome old.depot.held P
+  pub where_held : (P : Held → Type 0) → ((before : Held) → old.depot.held ≡ Some before → P before) → IfSome old.depot.held P
   where_held P so = by old.depot.held so
     where
       by : (held : Option Held) → ((before : Held) → held ≡ Some before → P before) → IfSome held P
@@ -157,20 +164,21 @@ module _ (path : List ℕ) (old new : Seen) where
 
   of_status : (ending : Ending) (status : ℕ) → HasCauses path old.depot new.depot ending → TellsEnding old.err new.err ending status → IsRunStatus status
   of_status Whole status causes tells = inl tells.0
-  of_status NoMemory status causes tells = inr (inr (inr (inr (inl tells.status_is))))
+  of_status NoMemory status causes tells = inr (inr (inr (inr (inr (inl tells.status_is)))))
   of_status (Faulty faults.Usage) status causes tells = absurd causes
   of_status (Faulty (faults.Graph refusal)) status causes tells =
-      elim (refusal_status refusal status causes.of_text (told_status tells)) [ inl three ↦ inr (inl three) | inr seven ↦ inr (inr (inr (inr (inl seven)))) ]
+      elim (refusal_status refusal status causes.of_text (told_status tells)) [ inl three ↦ inr (inl three) | inr seven ↦ inr (inr (inr (inr (inr (inl seven))))) ]
   of_status (Faulty faults.ReadGraph) status causes tells =
-      elim (told_status tells) [ inl same ↦ inr (inr (inl same)) | inr seven ↦ inr (inr (inr (inr (inl seven)))) ]
+      elim (told_status tells) [ inl same ↦ inr (inr (inl same)) | inr seven ↦ inr (inr (inr (inr (inr (inl seven))))) ]
   of_status (Faulty (faults.Read name)) status causes tells =
-      elim (told_status tells) [ inl same ↦ inr (inr (inl same)) | inr seven ↦ inr (inr (inr (inr (inl seven)))) ]
+      elim (told_status tells) [ inl same ↦ inr (inr (inl same)) | inr seven ↦ inr (inr (inr (inr (inr (inl seven))))) ]
   of_status (Faulty (faults.Write name)) status causes tells =
-      elim (told_status tells) [ inl same ↦ inr (inr (inr (inl same))) | inr seven ↦ inr (inr (inr (inr (inl seven)))) ]
+      elim (told_status tells) [ inl same ↦ inr (inr (inr (inl same))) | inr seven ↦ inr (inr (inr (inr (inr (inl seven))))) ]
   of_status (Faulty faults.WriteReport) status causes tells = absurd causes
-  of_status (Faulty (faults.BadFrame name offset)) status causes tells = absurd causes
+  of_status (Faulty (faults.BadFrame name offset)) status causes tells =
+      elim (told_status tells) [ inl same ↦ inr (inr (inr (inr (inl same)))) | inr seven ↦ inr (inr (inr (inr (inr (inl seven))))) ]
   of_status (Faulty (faults.TooLong name limit)) status causes tells =
-      elim (told_status tells) [ inl same ↦ inr (inr (inr (inr (inr same)))) | inr seven ↦ inr (inr (inr (inr (inl seven)))) ]
+      elim (told_status tells) [ inl same ↦ inr (inr (inr (inr (inr (inr same))))) | inr seven ↦ inr (inr (inr (inr (inr (inl seven))))) ]
 
   pub has_status : (status : ℕ) → Runs path old new status → IsRunStatus status
   has_status status runs = of_status runs.explained.ending status runs.explained.causes runs.explained.fault_text
@@ -189,7 +197,7 @@ module _ (path : List ℕ) (old new : Seen) where
     settled (Faulty (faults.Read name)) status causes tells = absurd (no_run _ causes)
     settled (Faulty (faults.Write name)) status causes tells = absurd (no_run _ causes)
     settled (Faulty faults.WriteReport) status causes tells = absurd causes
-    settled (Faulty (faults.BadFrame name offset)) status causes tells = absurd causes
+    settled (Faulty (faults.BadFrame name offset)) status causes tells = absurd (no_run _ causes)
     settled (Faulty (faults.TooLong name limit)) status causes tells = absurd (no_run _ causes)
 
   pub settles : (status : ℕ) → Runs path old new status → IfSome old.depot.held (SettlesStatus path status)
@@ -221,20 +229,27 @@ module _ (path : List ℕ) (old new : Seen) where
         (always old.depot.asked) (opens_all run)
 
   -- the other statuses
-  other_status : (status : ℕ) (P : Type 0) → (status ≡ 3) ⊎ ((status ≡ 4) ⊎ ((status ≡ 5) ⊎ (status ≡ 7))) → (status ≡ 0) ⊎ (status ≡ 8) → P
-  other_status status P (inl is) (inl zero) = absurd (omega arith)
-  other_status status P (inl is) (inr eight) = absurd (omega arith)
-  other_status status P (inr (inl is)) (inl zero) = absurd (omega arith)
-  other_status status P (inr (inl is)) (inr eight) = absurd (omega arith)
-  other_status status P (inr (inr (inl is))) (inl zero) = absurd (omega arith)
-  other_status status P (inr (inr (inl is))) (inr eight) = absurd (omega arith)
-  other_status status P (inr (inr (inr is))) (inl zero) = absurd (omega arith)
-  other_status status P (inr (inr (inr is))) (inr eight) = absurd (omega arith)
+  other_status : (status : ℕ) (P : Type 0) → (status ≡ 3) ⊎ ((status ≡ 4) ⊎ ((status ≡ 5) ⊎ (status ≡ 7))) → (status ≡ 0) ⊎ ((status ≡ 6) ⊎ (status ≡ 8)) → P
+  other_status status P other is = absurd (elim other [
+    | inl three ↦ differ 3 three (omega arith) (omega arith) (omega arith)
+    | inr (inl four) ↦ differ 4 four (omega arith) (omega arith) (omega arith)
+    | inr (inr (inl five)) ↦ differ 5 five (omega arith) (omega arith) (omega arith)
+    | inr (inr (inr seven)) ↦ differ 7 seven (omega arith) (omega arith) (omega arith)
+  ])
+    where
+      differ : (n : ℕ) → status ≡ n → (n ≡ 0 → ⊥) → (n ≡ 6 → ⊥) → (n ≡ 8 → ⊥) → ⊥
+      differ n same not_zero not_six not_eight = elim is [
+        | inl zero ↦ not_zero (sym same ∙ zero)
+        | inr (inl six) ↦ not_six (sym same ∙ six)
+        | inr (inr eight) ↦ not_eight (sym same ∙ eight)
+      ]
 
   asked_by : (before : Held) (ending : Ending) (status : ℕ) → old.depot.held ≡ Some before → HasCauses path old.depot new.depot ending
-      → TellsEnding old.err new.err ending status → (status ≡ 0) ⊎ (status ≡ 8) → Then (AsksAll path before) old.depot.asked new.depot.asked
+      → TellsEnding old.err new.err ending status → (status ≡ 0) ⊎ ((status ≡ 6) ⊎ (status ≡ 8)) → Then (AsksAll path before) old.depot.asked new.depot.asked
   asked_by before Whole status told causes tells is =
       asks_of_graph Whole causes before told (whole_through causes.graph.pipes causes.mid new.depot causes.drew causes.draws causes.outcome causes.ran (sym causes.so))
+  asked_by before (Faulty (faults.BadFrame name offset)) status told causes tells is =
+      asks_of_graph _ causes before told (ran_bad causes.graph.pipes causes.mid new.depot causes.drew causes.draws causes.outcome causes.ran name offset causes.so).run
   asked_by before (Faulty (faults.TooLong name limit)) status told causes tells is =
       asks_of_graph _ causes before told (ran_long causes.graph.pipes causes.mid new.depot causes.drew causes.draws causes.outcome causes.ran name limit causes.so).run
   asked_by before NoMemory status told causes tells is = other_status status _ (inr (inr (inr tells.status_is))) is
@@ -248,9 +263,8 @@ module _ (path : List ℕ) (old new : Seen) where
   asked_by before (Faulty (faults.Write name)) status told causes tells is =
       other_status status _ (elim (told_status tells) [ inl five ↦ inr (inr (inl five)) | inr seven ↦ inr (inr (inr seven)) ]) is
   asked_by before (Faulty faults.WriteReport) status told causes tells is = absurd causes
-  asked_by before (Faulty (faults.BadFrame name offset)) status told causes tells is = absurd causes
 
-  pub asks_all : (status : ℕ) → Runs path old new status → (status ≡ 0) ⊎ (status ≡ 8)
+  pub asks_all : (status : ℕ) → Runs path old new status → (status ≡ 0) ⊎ ((status ≡ 6) ⊎ (status ≡ 8))
       → IfSome old.depot.held (λ before. Then (AsksAll path before) old.depot.asked new.depot.asked)
   asks_all status runs is = where_held (λ before. Then (AsksAll path before) old.depot.asked new.depot.asked)
       (λ before told. asked_by before runs.explained.ending status told runs.explained.causes runs.explained.fault_text is)

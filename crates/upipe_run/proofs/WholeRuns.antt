@@ -1,38 +1,44 @@
 -- A run without a cause: every source gave all bytes at its path, and every sink has all of its own.
-use Rattle.std.proofs.Common.{◌≡◌, ℕ, List, [], length, Bool, true, false, Option, Some, None, slice_get, refl, sym, ap, ◌∙◌, inl, inr}
+use Rattle.std.proofs.Common.{◌≡◌, ℕ, List, [], Bool, true, false, Option, Some, None, slice_get, refl, sym, ap, ◌∙◌, inl, inr}
 use Rattle.std.specs.Prelude.{option_and_then, unwrap_or}
 use Rattle.std.specs.FinMap.{get}
 use Rattle.std.specs.Option.{option_map_or}
 use Rattle.std.proofs.Math.Path.{fun_ext}
-use Rattle.std.proofs.lemmas.Bool.{cases_Bool, cases_lt, lt-ltb, le-ltb}
+use Rattle.std.proofs.lemmas.Bool.{cases_Bool}
 use Rattle.up_engine.specs.Runs.{Ways, ending, carried, due_of, due_at, held_bytes, Gave, Wrote}
 use Rattle.up_model.proofs.Members.{passing_pipe}
+use Rattle.up_model.proofs.Shown.{is_of_bytes, not_fault, whole_unshown}
 use Rattle.up_model.specs.Ends.{is_sink, is_source}
 use Rattle.up_model.specs.Inputs.{ends_at_source, passes_at, source_of}
 use Rattle.up_model.specs.Meaning.{flow_by, sink_bytes, taken_by, to_sources, wholly}
 use Rattle.up_model.specs.Kinds.{written_of}
-use Rattle.up_model.specs.Outcomes.{carried_as, is_cause, own_at, own_outcome, source_flows, source_outcome, source_outcome_at}
+use Rattle.up_model.specs.Outcomes.{carried_as, is_cause, own_at, own_outcome, shown_of, source_flows, source_outcome, source_outcome_at}
 use Rattle.up_model.specs.Packet.{Flow}
 use Rattle.up_model.specs.declared.form.SinkForm.{SinkForm}
 use Rattle.up_model.specs.declared.form.SourceForm.{SourceForm}
-use Rattle.up_model.specs.declared.form.SourceForm.TheVariants.{Raw}
 use Rattle.up_model.specs.declared.kind.Kind.{Kind}
 use Rattle.up_model.specs.declared.kind.Kind.TheVariants.{Source, Sink}
 use Rattle.up_model.specs.declared.outcome.Outcome.{Outcome}
-use Rattle.up_model.specs.declared.outcome.Outcome.TheVariants.{Whole}
+use Rattle.up_model.specs.declared.outcome.Outcome.TheVariants.{Whole, ReadFault, WriteFault, BadFrame, TooLong, Broken, NoMemory}
 use Rattle.up_model.specs.declared.pipe.Pipe.{Pipe}
 use Rattle.up_outside.specs.Held.{Held}
 use Rattle.upipe_run.specs.WholeOutput.{IsWholeOutput, IsWholeSink, IsWholeSource}
 
--- a source without a cause: no read failed, and its bytes are within its limit
+-- bytes that tell no cause are whole
+told_whole : (outcome : Outcome) → is_of_bytes outcome ≡ true → is_cause outcome ≡ false → outcome ≡ Whole
+told_whole Whole told none = refl
+told_whole ReadFault told none = absurd (cc)
+told_whole WriteFault told none = absurd (cc)
+told_whole (BadFrame offset) told none = absurd (cc)
+told_whole (TooLong limit) told none = absurd (cc)
+told_whole Broken told none = absurd (cc)
+told_whole NoMemory told none = absurd (cc)
+
+-- a source without a cause: no read failed, and its bytes are whole
 pub source_clean : (path : List ℕ) (form : SourceForm) (limit : ℕ) (failed : Bool) (bytes : List ℕ) (behind : Outcome)
     → is_cause (unwrap_or (own_outcome (Source path form limit) failed bytes) behind) ≡ false → (failed ≡ false) × (source_outcome form limit bytes ≡ Whole)
-source_clean path (Raw block) limit true bytes behind none = absurd (cc)
-source_clean path (Raw block) limit false bytes behind none =
-    elim (cases_lt limit (length bytes)) [
-      | inl long ↦ absurd (let wrong : true ≡ false = rw (lt-ltb limit (length bytes) long) at none in cc)
-      | inr within ↦ (refl, rw (le-ltb limit (length bytes) within) refl)
-    ]
+source_clean path form limit true bytes behind none = absurd (cc)
+source_clean path form limit false bytes behind none = (refl, told_whole (source_outcome form limit bytes) (not_fault form limit bytes) none)
 
 -- a pipe without a cause is whole by itself, or ends as its source does
 pub own_whole : (kind : Kind) (failed : Bool) (bytes : List ℕ) (behind : Outcome) → is_cause (unwrap_or (own_outcome kind failed bytes) behind) ≡ false
@@ -82,7 +88,8 @@ module _ (pipes : List Pipe) (ways : Ways)
         let gives = (gave place pipe there (rw is refl)).there path (rw is refl) in
         let clean = source_clean path form limit (ways.failed place) (ways.given place) _ (rw (there, is) at (none place pipe there)) in
         let whole : ending pipes ways place ≡ Whole = rw (there, is, clean.0, clean.1) refl in
-        record { whole = whole; held_there = gives.1 ∙ ap Some (sym (gives.3 whole)); within = clean.1 }
+        let unshown : shown_of pipe.kind (ways.given place) ≡ None = rw is (whole_unshown form limit (ways.given place) clean.1) in
+        record { whole = whole; held_there = gives.1 ∙ ap Some (sym (gives.3 clean.0 unshown)); within = clean.1 }
 
     source_is : (place : ℕ) (pipe : Pipe) → slice_get pipes place ≡ Some pipe → (kind : Kind) → pipe.kind ≡ kind → IsWholeSource held kind
     source_is place pipe there (Source path form limit) is =

@@ -9,7 +9,7 @@ use Rattle.up_model.specs.Outcomes.{deciding}
 use Rattle.up_model.specs.declared.outcome.Outcome.{Outcome}
 use Rattle.up_model.specs.declared.outcome.Outcome.TheVariants as outcomes
 use Rattle.up_model.specs.declared.pipe.Pipe.{Pipe}
-use Rattle.up_report.specs.declared.fault.Fault.TheVariants.{Graph, Read, Write, TooLong}
+use Rattle.up_report.specs.declared.fault.Fault.TheVariants.{Graph, Read, Write, BadFrame, TooLong}
 use Rattle.upipe_run.specs.declared.ending.Ending.{Ending}
 use Rattle.upipe_run.specs.declared.ending.Ending.TheVariants.{Whole, Faulty, NoMemory}
 use Rattle.upipe_run.specs.declared.program.FileRun.{FileRun}
@@ -30,6 +30,7 @@ abbrev pub ending_by : Pipe → Outcome → Ending
 ending_by pipe outcomes.Whole = Whole
 ending_by pipe outcomes.ReadFault = Faulty (Read pipe.name)
 ending_by pipe outcomes.WriteFault = Faulty (Write pipe.name)
+ending_by pipe (outcomes.BadFrame offset) = Faulty (BadFrame pipe.name offset)
 ending_by pipe (outcomes.TooLong limit) = Faulty (TooLong pipe.name limit)
 ending_by pipe outcomes.Broken = Whole
 ending_by pipe outcomes.NoMemory = Whole

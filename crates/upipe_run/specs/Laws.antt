@@ -25,10 +25,11 @@ use Rattle.upipe_run.specs.Seen.{Seen}
 use Rattle.upipe_run.specs.WholeOutput.{CanComplete, meant_bytes}
 use Rattle.upipe_run.specs.declared.ending.Ending.TheVariants.{Whole}
 
--- 0 whole, 3 no graph, 4 a read fault, 5 a write fault, 7 want of memory, 8 a source that is too long
+-- 0 whole, 3 no graph, 4 a read fault, 5 a write fault, 6 a bad frame, 7 want of memory, 8 a source that is too long
 abbrev pub IsRunStatus : ℕ → Type 0
 IsRunStatus status =
-    (status ≡ 0) ⊎ ((status ≡ 3) ⊎ ((status ≡ 4) ⊎ ((status ≡ 5) ⊎ ((status ≡ 7) ⊎ (status ≡ 8)))))
+    (status ≡ 0) ⊎ ((status ≡ 3) ⊎ ((status ≡ 4) ⊎ ((status ≡ 5) ⊎ ((status ≡ 6)
+    ⊎ ((status ≡ 7) ⊎ (status ≡ 8))))))
 
 -- where the text at the path has no graph, the status is 3, that of a read fault, or that of want of memory
 abbrev pub SettlesStatus : List ℕ → ℕ → Held → Type 0

@@ -1,5 +1,6 @@
 pub mod Endings
 pub mod Filling
+pub mod FirstCauses
 pub mod GraphText
 pub mod Laws
 pub mod OfGraph

@@ -95,7 +95,7 @@ module _ (path : List ℕ) (old new : DepotState) where
   HasCauses (Faulty (Read pipe)) = RanFile (Faulty (Read pipe))
   HasCauses (Faulty (Write pipe)) = RanFile (Faulty (Write pipe))
   HasCauses (Faulty WriteReport) = ⊥
-  HasCauses (Faulty (BadFrame pipe offset)) = ⊥
+  HasCauses (Faulty (BadFrame pipe offset)) = RanFile (Faulty (BadFrame pipe offset))
   HasCauses (Faulty (TooLong pipe limit)) = RanFile (Faulty (TooLong pipe limit))
   HasCauses NoMemory = ShortFile ⊎ RanFile NoMemory
 

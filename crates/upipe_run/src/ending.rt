@@ -33,6 +33,10 @@ fn ending_by(pipe: &Pipe, outcome: Outcome) -> Ending
     match outcome {
         Outcome::ReadFault => Ending::Faulty(Fault::Read(pipe.name)),
         Outcome::WriteFault => Ending::Faulty(Fault::Write(pipe.name)),
+        Outcome::BadFrame { offset } => Ending::Faulty(Fault::BadFrame {
+            pipe: pipe.name,
+            offset,
+        }),
         Outcome::TooLong { limit } => Ending::Faulty(Fault::TooLong {
             pipe: pipe.name,
             limit,

@@ -11,13 +11,15 @@ mod tell;
 
 pub use ending::Ending;
 pub use laws::{
-    closed_sinks_hold_first_parts, runs_ask_all, runs_complete, runs_have_statuses,
-    whole_runs_are_clean,
+    closed_sinks_hold_first_parts, first_causes_are_answered, runs_ask_all, runs_complete,
+    runs_have_statuses, runs_tell_of_bytes, whole_runs_are_clean,
 };
 pub use program::{run, run_single};
 
 #[cfg(test)]
 mod fault_tests;
+#[cfg(test)]
+mod frame_tests;
 #[cfg(test)]
 mod kind_tests;
 #[cfg(test)]
