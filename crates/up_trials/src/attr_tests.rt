@@ -23,7 +23,7 @@ fn behind_lane() -> [Row; 7] {
     [
         pipe_row(CAPTURE, "one", None),
         pipe_row(Does::Dup, "two", Some(0)),
-        pipe_row(Does::DelAttr, "two", Some(1)),
+        pipe_row(Does::DelAttr("key"), "two", Some(1)),
         pipe_row(Does::Dup, "two", Some(2)),
         pipe_row(Does::Sink, "two", Some(3)),
         pipe_row(Does::Sink, "three", Some(1)),

@@ -71,7 +71,7 @@ fn a_skip_of_two_bytes_drops_the_last_block_of_one(rt: HostRuntime) -> Result<()
 fn a_delattr_passes_packets_on_that_have_no_attribute(rt: HostRuntime) -> Result<(), Fail> {
     let alloc = rt.alloc();
     let mut depot = depot_of(alloc, b"abcde")?;
-    let ran = run_pipes(&rt, alloc, &through(Does::DelAttr), &mut depot)?;
+    let ran = run_pipes(&rt, alloc, &through(Does::DelAttr("key")), &mut depot)?;
     ran.assert_ends(&rt, &[Outcome::Whole; 3]);
     ran.assert_sums(&rt, &[sums(0, 3, 0, 0), sums(3, 3, 0, 0), sums(3, 0, 0, 0)]);
     assert_held(&rt, &depot, &[("pipe2", b"abcde")]);

@@ -10,6 +10,12 @@ mod branch_tests;
 #[cfg(test)]
 mod closing_tests;
 #[cfg(test)]
+mod damaged_tests;
+#[cfg(test)]
+mod frame_tests;
+#[cfg(test)]
+mod frame_trials;
+#[cfg(test)]
 mod graph_runs;
 #[cfg(test)]
 mod graph_tests;
@@ -47,6 +53,8 @@ mod room_tests;
 mod row;
 #[cfg(test)]
 mod run;
+#[cfg(test)]
+mod same;
 #[cfg(test)]
 mod sent;
 #[cfg(test)]

@@ -82,12 +82,22 @@ fn made_on_attrs(dice: &mut Dice, before: Does) -> Does {
     }
 }
 
+/// A pipe that takes an attribute away, behind a pipe that does this: one that the pipe gives or moves, else `key`, which
+/// packets are given in lanes.
+fn made_del(before: Does) -> Does {
+    match before {
+        Does::SetAttr { attr, .. } => Does::DelAttr(attr),
+        Does::Delay(_) => Does::DelAttr(ATTRS[0]),
+        _ => Does::DelAttr("key"),
+    }
+}
+
 /// A pipe between others, behind a pipe that does this.
 fn made_between(dice: &mut Dice, before: Does) -> Does {
     match dice.roll(12) {
         0 | 1 | 2 => Does::Dup,
         3 | 4 => Does::Skip(dice.roll(5)),
-        5 => Does::DelAttr,
+        5 => made_del(before),
         6 => Does::Idem,
         _ => made_on_attrs(dice, before),
     }

@@ -7,7 +7,13 @@ pub(crate) enum Does {
         block: u32,
         limit: u64,
     },
+    /// A source of frames.
+    Frames {
+        limit: u64,
+    },
     Sink,
+    /// A sink of frames.
+    FrameSink,
     Idem,
     Null,
     Dup,
@@ -19,8 +25,8 @@ pub(crate) enum Does {
     },
     /// Gives packets a text as `title`.
     Titles(&'static str),
-    /// Takes the attribute `key` away.
-    DelAttr,
+    /// Takes the attribute of this name away.
+    DelAttr(&'static str),
     MatchAttr {
         attr: &'static str,
         low: u64,

@@ -165,6 +165,24 @@ fn given(rt: &impl Abort, alloc: Global, split: &Split, bytes: &[u8]) -> GivenBy
     list
 }
 
+/// The bytes that the sink at a place is to hold, where these are all bytes of each source.
+pub(crate) fn output_at(
+    rt: &impl Abort,
+    alloc: Global,
+    split: &Split,
+    bytes: &[u8],
+    place: usize,
+) -> Bytes
+    requires well_formed { IsWellFormed split.now.graph.pipes }
+{
+    let given = given(rt, alloc, split, bytes);
+    assert_eq!(rt; given.len(), split.graph.pipes.len());
+    assert!(rt; place < split.graph.pipes.len());
+    assert!(rt; split.graph.pipes.at(place).kind.is_sink());
+    let held = plain_output(alloc, &split.graph, &given, place);
+    held.expect(rt, "no memory")
+}
+
 /// The bytes that the pipe at a place is to write of what it takes: none but a sink's.
 fn written_of(
     rt: &impl Abort,
@@ -182,10 +200,7 @@ fn written_of(
         return Bytes::new(alloc);
     }
     if carried.is_whole() {
-        let given = given(rt, alloc, split, carried.bytes);
-        assert_eq!(rt; given.len(), split.graph.pipes.len());
-        let bytes = plain_output(alloc, &split.graph, &given, place);
-        return bytes.expect(rt, "no memory");
+        return output_at(rt, alloc, split, carried.bytes, place);
     }
     let bytes = plain_sink(alloc, &split.graph, place, taken);
     bytes.expect(rt, "no memory")

@@ -29,9 +29,18 @@ fn kind_of(alloc: Global, does: Does, path: &str) -> Result<Kind, Fail> {
             form: SourceForm::Raw { block },
             limit,
         },
+        Does::Frames { limit } => Kind::Source {
+            path: Text::from_str(alloc, path)?,
+            form: SourceForm::Framed,
+            limit,
+        },
         Does::Sink => Kind::Sink {
             path: Text::from_str(alloc, path)?,
             form: SinkForm::Raw,
+        },
+        Does::FrameSink => Kind::Sink {
+            path: Text::from_str(alloc, path)?,
+            form: SinkForm::Framed,
         },
         Does::Idem => Kind::Idem,
         Does::Null => Kind::Null,
@@ -45,8 +54,8 @@ fn kind_of(alloc: Global, does: Does, path: &str) -> Result<Kind, Fail> {
             attr: AttrName::read(b"title")?,
             value: Value::Words(Text::from_str(alloc, title)?),
         },
-        Does::DelAttr => Kind::DelAttr {
-            attr: AttrName::read(b"key")?,
+        Does::DelAttr(attr) => Kind::DelAttr {
+            attr: AttrName::read(attr.as_bytes())?,
         },
         Does::MatchAttr { attr, low, high } => Kind::MatchAttr {
             attr: AttrName::read(attr.as_bytes())?,
@@ -208,7 +217,7 @@ impl Split {
         Some(depot.open_source(path).expect(rt, "no source"))
     }
 
-    /// The size of the packets of the source at a place.
+    /// The size of the packets of the raw source at a place.
     pub fn block_at(&self, rt: &impl Abort, place: usize) -> usize {
         assert!(rt; place < self.graph.pipes.len());
         match &self.graph.pipes.at(place).kind {
@@ -216,7 +225,7 @@ impl Split {
                 form: SourceForm::Raw { block },
                 ..
             } => *block as usize,
-            _ => panic!(rt; "no source"),
+            _ => panic!(rt; "no raw source"),
         }
     }
 
