@@ -32,7 +32,7 @@ pub(crate) fn bytes_of(alloc: Global, packets: u32) -> Result<Vec<u8>, NoMemory>
 }
 
 /// The nanoseconds of processor time of this thread so far.
-fn nanos_now<R: CpuClock>(rt: &R) -> Result<u64, NotMeasured> {
+pub(crate) fn nanos_now<R: CpuClock>(rt: &R) -> Result<u64, NotMeasured> {
     let Ok(time) = rt.thread_cpu_time() else {
         return Err(NotMeasured::NoClock);
     };

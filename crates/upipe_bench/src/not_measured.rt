@@ -14,6 +14,8 @@ pub(crate) enum NotMeasured {
     NoChain { idems: u16 },
     #[error("an open in memory failed")]
     NotOpened,
+    #[error("no packet of these sizes can be made")]
+    NoPacket,
     #[error("what came out isn't what went in")]
     NotCarried,
 }
