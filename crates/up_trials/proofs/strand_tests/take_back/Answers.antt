@@ -28,3 +28,8 @@ returns g c =
       stands = (_, c.keep_out.ensures.back was.0 c.args.lane (c.next_out-item.ensures.back c.args.lane want) went.stands went.not_over);
       holds = all_fit _ _;
     }
+
+pub next_out-item-requires-clause-want : goal.next_out-item-requires-clause-want
+next_out-item-requires-clause-want g c =
+    let want : want_of c.args.strand.now ≡ wants.Output c.args.lane = search rules in
+    (c.args.lane, want)
