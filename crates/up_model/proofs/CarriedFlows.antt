@@ -3,8 +3,7 @@ use Rattle.std.proofs.Common.{◌≡◌, ℕ, List, [], ◌++◌, All, Option, S
 use Rattle.std.specs.Option.{option_map_or}
 use Rattle.std.proofs.lemmas.List.Elements.{All-nil}
 use Rattle.up_base.specs.Lists.{IsPrefix}
-use Rattle.up_base.specs.Number.{AreBytes}
-use Rattle.up_model.proofs.Carried.{carried_is_first, carried_are_legal}
+use Rattle.up_model.proofs.Carried.{AreGiven, carried_is_first, carried_are_legal}
 use Rattle.up_model.proofs.WellFormed.{is_pipe}
 use Rattle.up_model.specs.Outcomes.{carried_as, carried_flows, source_flows}
 use Rattle.up_model.specs.Packet.{IsLegal}
@@ -25,10 +24,15 @@ module _ (pipes : List Pipe) (well : IsWellFormed pipes) (ends : ℕ → Outcome
       → IsPrefix (carried_flows pipes ends bytes place) (source_flows pipes (λ source. bytes source ++ more source) place)
   carried_flows_first more whole place = first_at more whole place (slice_get pipes place) refl
 
-  legal_at : (place : ℕ) (pipe : Option Pipe) → slice_get pipes place ≡ pipe → AreBytes (bytes place)
+  -- what the sources of frames are given are bytes
+  abbrev AreGivenAt : ℕ → Type 0
+  AreGivenAt place = (pipe : Pipe) → slice_get pipes place ≡ Some pipe → AreGiven pipe.kind (bytes place)
+
+  legal_at : (place : ℕ) (pipe : Option Pipe) → slice_get pipes place ≡ pipe → AreGivenAt place
       → All IsLegal (option_map_or (λ (p : Pipe). carried_as (ends place) p.kind (bytes place)) pipe [])
   legal_at place None is below = All-nil IsLegal
-  legal_at place (Some pipe) is below = carried_are_legal (ends place) pipe.kind (bytes place) (is_pipe pipes well place pipe is).kind below
+  legal_at place (Some pipe) is below =
+      carried_are_legal (ends place) pipe.kind (bytes place) (is_pipe pipes well place pipe is).kind (below pipe is)
 
-  pub carried_flows_are_legal : (place : ℕ) → AreBytes (bytes place) → All IsLegal (carried_flows pipes ends bytes place)
+  pub carried_flows_are_legal : (place : ℕ) → AreGivenAt place → All IsLegal (carried_flows pipes ends bytes place)
   carried_flows_are_legal place below = legal_at place (slice_get pipes place) refl below

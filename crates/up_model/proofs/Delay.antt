@@ -13,7 +13,7 @@ use Rattle.up_model.specs.Attrs.{unsigned_at}
 use Rattle.up_model.specs.Dates.{date_name}
 use Rattle.up_model.specs.Delay.{IsShift, least_shift, greatest_shift, dated, with_date, moved, moved_from, delay_step, delay_setting}
 use Rattle.up_model.specs.KindMeaning.{Setting, admits}
-use Rattle.up_model.specs.OptionValues.{IsSet, value_of}
+use Rattle.up_model.specs.OptionValues.{IsSet, option_value}
 use Rattle.up_model.specs.Packet.{PlainPacket, IsLegal}
 use Rattle.up_model.specs.Value.{unsigned_of}
 use Rattle.up_model.specs.declared.date_kind.DateKind.{DateKind}
@@ -69,7 +69,7 @@ shift_fits (pos by) within = record { sfits = omega (arith, ints, within.1) }
 shift_fits (negsuc by) within = record { sfits = omega (arith, ints, within.0) }
 
 module _ (by : ℤ) where
-  other_options : (value : ℤ) (other : Opt) → other ≢ By → value_of (Delay value) other ≡ value_of (Delay by) other
+  other_options : (value : ℤ) (other : Opt) → other ≢ By → option_value (Delay value) other ≡ option_value (Delay by) other
   other_options value By apart = absurd (apart refl)
   other_options value Mtu apart = refl
   other_options value Align apart = refl

@@ -1,5 +1,5 @@
 -- Attributes in the order of their names, as they are read and written.
-use Rattle.std.proofs.Common.{◌≡◌, ℕ, zero, suc, ◌%◌, ◌^◌, ◌<◌, ◌≤◌, Bool, true, false, ◌&&◌, T, List, [], ◌∷◌, ◌++◌, length, map, All, leb, Ordering, Less, Equal, Greater, Ok, refl, sym, ap, subst, ◌∙◌, append_assoc, arith}
+use Rattle.std.proofs.Common.{◌≡◌, ℕ, zero, suc, ◌%◌, ◌^◌, ◌<◌, ◌≤◌, Bool, true, false, ◌&&◌, T, List, [], ◌∷◌, ◌++◌, length, map, All, leb, Ok, refl, sym, ap, subst, ◌∙◌, append_assoc, arith}
 use Rattle.std.specs.Cmp.Lexicographic.{nat_list_cmp_total}
 use Rattle.std.specs.FinMap.Entries.{is_sorted, below_all}
 use Rattle.std.specs.List.{flat_map}
@@ -12,6 +12,7 @@ use Rattle.up_base.specs.declared.name_text.TheConstants.{NAME_SIZE}
 use Rattle.up_model.proofs.AttrLists.{Attr, by_name}
 use Rattle.up_model.proofs.FrameFields.{bind_ok, found, found_is, Takes, takes_both, field_takes, field_again, number_takes, number_again}
 use Rattle.up_model.proofs.FrameValues.{type_takes, type_again, value_takes, value_again}
+use Rattle.up_model.proofs.SortedEntries.{first, second, less}
 use Rattle.up_model.specs.FrameFronts.{Front, ◌>>=◌, field, number_at, is_name_behind, type_at, value_at, attribute_at, attributes_at}
 use Rattle.up_model.specs.FrameSpelling.{named, typed, sized, attribute_bytes}
 use Rattle.up_model.specs.Value.{IsLegalValue}
@@ -88,19 +89,6 @@ is_true false holds = absurd holds
 both : (a b : Bool) → T a → T b → T (a && b)
 both true b p q = q
 both false b p q = absurd p
-
-first : (a b : Bool) → T (a && b) → T a
-first true b p = tt
-first false b p = p
-
-second : (a b : Bool) → T (a && b) → T b
-second true b p = p
-second false b p = absurd p
-
-less : (r : Ordering) → T (is_lt r) → r ≡ Less
-less Less p = refl
-less Equal p = absurd p
-less Greater p = absurd p
 
 -- a name below another one is below all that the other is below
 pub below_more : (name other : List ℕ) (attrs : List Attr) → T (is_lt (by_name name other)) → T (below_all by_name other attrs)

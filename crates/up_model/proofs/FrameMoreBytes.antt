@@ -4,7 +4,7 @@ use Rattle.std.proofs.lemmas.List.{length-append}
 use Rattle.up_base.specs.Lists.{IsPrefix}
 use Rattle.up_model.proofs.FrameShorter.{packet_shrinks}
 use Rattle.up_model.proofs.FrameSteady.{Stays, packet_steady}
-use Rattle.up_model.proofs.FrameStreams.{first_is, none_is}
+use Rattle.up_model.proofs.FrameStreams.{first_is, none_is, rest_within}
 use Rattle.up_model.specs.FrameFronts.{Front, packet_at}
 use Rattle.up_model.specs.FrameStreams.{Stream, behind, stream_by, stream_within, stream_of, whole_frames, rest_of_frames, rest_place, broken_where, broken_at}
 use Rattle.up_model.specs.Packet.{Flow}
@@ -35,19 +35,6 @@ grown (suc n) bytes more enough =
 pub frames_first : (bytes more : List ℕ) → IsPrefix (whole_frames bytes) (whole_frames (bytes ++ more))
 frames_first bytes more = (whole_frames (rest_of_frames bytes ++ more), ap (λ (s : Stream). s.flow) (grown (length bytes) bytes more (omega arith)))
 
--- the bytes of the rest were among all
-rest_within : (n : ℕ) (bytes : List ℕ) → length (stream_within n bytes).rest ≤ length bytes
-rest_within zero bytes = omega arith
-rest_within (suc n) bytes = next (λ rest. rest_within n rest) (packet_at bytes) refl
-  where
-    next : ((rest : List ℕ) → length (stream_within n rest).rest ≤ length rest) → (front : Front PlainPacket) → packet_at bytes ≡ front
-        → length (stream_by (stream_within n) bytes front).rest ≤ length bytes
-    next others (Ok x) e =
-        let fewer = packet_shrinks bytes x e in
-        let rest = others x.1 in
-        omega (arith, fewer, rest)
-    next others (Err refused) e = omega arith
-
 pub is_broken : (place at : ℕ) (front : Front PlainPacket) → broken_where place front ≡ Some at → (front ≡ Err Broken) × (place ≡ at)
 is_broken place at (Ok x) e = absurd cc
 is_broken place at (Err Broken) e = (refl, cc)
@@ -64,7 +51,7 @@ stays_broken bytes more place e =
     let later : packet_at (rest ++ more) ≡ Err Broken = subst (λ front. Stays more front (packet_at (rest ++ more))) broken.0 (packet_steady rest more) in
     let ends : rest_of_frames (bytes ++ more) ≡ rest ++ more =
     ap (λ (s : Stream). s.rest) (grown (length bytes) bytes more (omega arith)) ∙ ap (λ (s : Stream). s.rest) (none_is (rest ++ more) Broken later) in
-    let where_ : length (bytes ++ more) - length (rest ++ more) ≡ place = same_place bytes rest more (rest_within (length bytes) bytes) ∙ broken.1 in
+    let where_ : length (bytes ++ more) - length (rest ++ more) ≡ place = same_place bytes rest more (rest_within bytes) ∙ broken.1 in
     ap (λ (r : List ℕ). broken_where (length (bytes ++ more) - length r) (packet_at r)) ends
     ∙ ap (λ (front : Front PlainPacket). broken_where (length (bytes ++ more) - length (rest ++ more)) front) later
     ∙ ap Some where_

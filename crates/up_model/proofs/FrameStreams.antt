@@ -131,13 +131,14 @@ pub frames_are_legal : (bytes : List ℕ) → AreBytes bytes → All IsLegal (wh
 frames_are_legal bytes below =
     (framed_parts (whole_frames bytes) bytes (rest_of_frames bytes) (all_within (length bytes) bytes (omega arith) below).framed).0
 
--- there are no more of them than bytes
-few_within : (n : ℕ) (bytes : List ℕ) → length (stream_within n bytes).flow ≤ length bytes
-few_within zero bytes = omega arith
-few_within (suc n) bytes = next (λ rest. few_within n rest) (packet_at bytes) refl
+-- each of them has a byte at least, and the rest has others
+parts_within : (n : ℕ) (bytes : List ℕ) → length (stream_within n bytes).flow + length (stream_within n bytes).rest ≤ length bytes
+parts_within zero bytes = omega arith
+parts_within (suc n) bytes = next (λ rest. parts_within n rest) (packet_at bytes) refl
   where
-    next : ((rest : List ℕ) → length (stream_within n rest).flow ≤ length rest) → (front : Front PlainPacket) → packet_at bytes ≡ front
-        → length (stream_by (stream_within n) bytes front).flow ≤ length bytes
+    next : ((rest : List ℕ) → length (stream_within n rest).flow + length (stream_within n rest).rest ≤ length rest)
+        → (front : Front PlainPacket) → packet_at bytes ≡ front
+        → length (stream_by (stream_within n) bytes front).flow + length (stream_by (stream_within n) bytes front).rest ≤ length bytes
     next others (Ok x) e =
         let fewer = packet_shrinks bytes x e in
         let rest = others x.1 in
@@ -145,7 +146,10 @@ few_within (suc n) bytes = next (λ rest. few_within n rest) (packet_at bytes) r
     next others (Err refused) e = omega arith
 
 pub few_frames : (bytes : List ℕ) → length (whole_frames bytes) ≤ length bytes
-few_frames bytes = few_within (length bytes) bytes
+few_frames bytes = omega (arith, parts_within (length bytes) bytes)
+
+pub rest_within : (bytes : List ℕ) → length (rest_of_frames bytes) ≤ length bytes
+rest_within bytes = omega (arith, parts_within (length bytes) bytes)
 
 -- the bytes before the rest are the whole frames
 pub whole_front : (bytes : List ℕ) (place : ℕ) → AreBytes bytes → place ≤ length bytes → rest_of_frames bytes ≡ drop place bytes

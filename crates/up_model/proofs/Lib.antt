@@ -1,6 +1,7 @@
 pub mod AlongInputs
 pub mod AttrLists
 pub mod Blocks
+pub mod BrokenExamples
 pub mod Carried
 pub mod CarriedFlows
 pub mod Chains

@@ -8,8 +8,8 @@ use Rattle.up_model.proofs.Lawful.{IsLawful, both_are, by_packets, not_some, of_
 use Rattle.up_model.proofs.Packetwise.{KeepsLegal, IsCutOf}
 use Rattle.up_model.specs.Attrs.{unsigned_at}
 use Rattle.up_model.specs.KindMeaning.{Setting, admits}
-use Rattle.up_model.specs.MatchAttr.{AreBounds, lies_within, match_attr_step, match_attr_setting}
-use Rattle.up_model.specs.OptionValues.{IsSet, value_of}
+use Rattle.up_model.specs.MatchAttr.{AreBounds, is_matched, match_attr_step, match_attr_setting}
+use Rattle.up_model.specs.OptionValues.{IsSet, option_value}
 use Rattle.up_model.specs.Packet.{PlainPacket, IsLegal}
 use Rattle.up_model.specs.Packetwise.{IfPasses}
 use Rattle.up_model.specs.declared.fan_out.FanOut.TheVariants as fans
@@ -19,7 +19,7 @@ use Rattle.up_model.specs.declared.opt.Opt.TheVariants.{Mtu, Align, Offset, Low,
 use Rattle.up_model.specs.declared.verdict.Verdict.TheVariants.{Passes, Drops}
 
 match_attr_is_legal : (attr : List ℕ) (low high : ℕ) → KeepsLegal (match_attr_step attr low high)
-match_attr_is_legal attr low high packet legal = by_test (lies_within low high (unsigned_at attr packet.attrs))
+match_attr_is_legal attr low high packet legal = by_test (is_matched low high (unsigned_at attr packet.attrs))
   where
     by_test : (lies : Bool) → IfPasses (if lies then Passes packet 0 else Drops) IsLegal
     by_test true = legal
@@ -27,14 +27,14 @@ match_attr_is_legal attr low high packet legal = by_test (lies_within low high (
 
 -- a packet that passes keeps its bytes
 pub match_attr_cuts : (attr : List ℕ) (low high : ℕ) (packet : PlainPacket) → IsCutOf packet (match_attr_step attr low high packet)
-match_attr_cuts attr low high packet = by_test (lies_within low high (unsigned_at attr packet.attrs))
+match_attr_cuts attr low high packet = by_test (is_matched low high (unsigned_at attr packet.attrs))
   where
     by_test : (lies : Bool) → IsCutOf packet (if lies then Passes packet 0 else Drops)
     by_test true = omega arith
     by_test false = tt
 
 module _ (attr : List ℕ) (low high : ℕ) where
-  others_of_low : (value : ℕ) (other : Opt) → other ≢ Low → value_of (MatchAttr attr value high) other ≡ value_of (MatchAttr attr low high) other
+  others_of_low : (value : ℕ) (other : Opt) → other ≢ Low → option_value (MatchAttr attr value high) other ≡ option_value (MatchAttr attr low high) other
   others_of_low value Low apart = absurd (apart refl)
   others_of_low value High apart = refl
   others_of_low value Mtu apart = refl
@@ -43,7 +43,7 @@ module _ (attr : List ℕ) (low high : ℕ) where
   others_of_low value By apart = refl
   others_of_low value Sync apart = refl
 
-  others_of_high : (value : ℕ) (other : Opt) → other ≢ High → value_of (MatchAttr attr low value) other ≡ value_of (MatchAttr attr low high) other
+  others_of_high : (value : ℕ) (other : Opt) → other ≢ High → option_value (MatchAttr attr low value) other ≡ option_value (MatchAttr attr low high) other
   others_of_high value High apart = absurd (apart refl)
   others_of_high value Low apart = refl
   others_of_high value Mtu apart = refl

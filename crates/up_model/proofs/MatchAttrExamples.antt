@@ -6,7 +6,7 @@ use Rattle.std.specs.FinMap.Entries.{find}
 use Rattle.std.specs.Int.RustNames.{unsigned_abs}
 use Rattle.up_model.proofs.AttrLists.{Attr, HasOrder, by_name, attrs_of}
 use Rattle.up_model.specs.Kinds.{IsWithinBounds, setting_of, with_option, settled_work, work_of}
-use Rattle.up_model.specs.MatchAttr.{lies_within, match_attr_step}
+use Rattle.up_model.specs.MatchAttr.{is_matched, match_attr_step}
 use Rattle.up_model.specs.Packet.{Flow, PlainPacket}
 use Rattle.up_model.specs.Packetwise.{sums_of}
 use Rattle.up_model.specs.Tallies.{nothing, plus}
@@ -22,9 +22,9 @@ with list = record { attrs = attrs_of list; bytes = codes "ab" }
 
 -- a map is read by its laws: what stands under a name of a list in order is computed
 looked_up : (list : List Attr) (name : List ℕ) (low high : ℕ) → HasOrder list
-    → match_attr_step name low high (with list) ≡ (if lies_within low high (option_and_then unsigned_of (find by_name name list)) then Passes (with list) 0 else Drops)
+    → match_attr_step name low high (with list) ≡ (if is_matched low high (option_and_then unsigned_of (find by_name name list)) then Passes (with list) 0 else Drops)
 looked_up list name low high order =
-    ap (λ found. if lies_within low high (option_and_then unsigned_of found) then Passes (with list) 0 else Drops) (get-from_sorted by_name list name order)
+    ap (λ found. if is_matched low high (option_and_then unsigned_of found) then Passes (with list) 0 else Drops) (get-from_sorted by_name list name order)
 
 abbrev rate : ℕ → List Attr
 rate number = (codes "rate", Unsigned number) ∷ []

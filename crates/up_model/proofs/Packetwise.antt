@@ -5,7 +5,7 @@ use Rattle.std.proofs.lemmas.List.Elements.{All-cons, All-head, All-tail}
 use Rattle.up_model.specs.Packet.{PlainPacket, Flow, IsLegal, joined}
 use Rattle.up_model.specs.Packetwise.{Step, put_of, sums_of, passed, summed, work_by, passes_on, IfPasses}
 use Rattle.up_model.specs.Tallies.{nothing, plus, IsAtMost, of_passed, of_dropped}
-use Rattle.up_model.specs.Work.{Work, Counts, CutsTheRest, PutsOrDrops}
+use Rattle.up_model.specs.Work.{Work, Counts, CutsTheRest, PutsAll, PutsOrDrops}
 use Rattle.up_model.specs.declared.verdict.Verdict.{Verdict}
 use Rattle.up_model.specs.declared.verdict.Verdict.TheVariants.{Passes, Drops}
 use Rattle.up_model.specs.declared.tally.Tally.{Tally}
@@ -151,3 +151,23 @@ pub work_puts_or_drops : (step : Step) (taken : Flow) → PutsOrDrops (work_by s
 work_puts_or_drops step [] = record { packets = refl; gained = refl; lost = refl }
 work_puts_or_drops step (packet ∷ taken) =
     put_or_dropped packet (step packet) (summed step taken) (passed step taken) (work_puts_or_drops step taken)
+
+-- the packet is put out with all of its bytes
+abbrev pub IsKept : PlainPacket → Verdict PlainPacket → Type 0
+IsKept packet (Passes put cut) = (put.bytes ≡ packet.bytes) × (cut ≡ 0)
+IsKept packet Drops = ⊥
+
+kept_next : (packet : PlainPacket) (p : Verdict PlainPacket) (sums : Tally) (rest taken : Flow) → IsKept packet p
+    → PutsAll (record { flow = rest; tally = sums }) taken
+    → PutsAll (record { flow = cons_option (put_of p) rest; tally = plus (sums_of packet p) sums }) (packet ∷ taken)
+kept_next packet (Passes put cut) sums rest taken is before = record {
+  bytes = rw (is.0, before.bytes) refl;
+  sums = rw (is.1, before.sums) (grind arith);
+}
+kept_next packet Drops sums rest taken is before = absurd is
+
+-- where each packet is, all are
+pub work_puts_all : (step : Step) → ((packet : PlainPacket) → IsKept packet (step packet)) → (taken : Flow) → PutsAll (work_by step taken) taken
+work_puts_all step keeps [] = record { bytes = refl; sums = refl }
+work_puts_all step keeps (packet ∷ taken) =
+    kept_next packet (step packet) (summed step taken) (passed step taken) taken (keeps packet) (work_puts_all step keeps taken)

@@ -1,15 +1,16 @@
 -- What the bytes of a source show whatever comes behind them.
-use Rattle.std.proofs.Common.{◌≡◌, ℕ, suc, ◌+◌, ◌-◌, ◌≤◌, Bool, true, false, List, [], ◌++◌, length, take, append-nil, Option, Some, None, refl, sym, ap, ◌∙◌, arith, length-append, inl, inr}
-use Rattle.std.specs.Prelude.{nat_lt, option_map, unwrap_or, if◌then◌else◌}
+use Rattle.std.proofs.Common.{◌≡◌, ℕ, suc, ◌+◌, ◌-◌, ◌<◌, ◌≤◌, Bool, true, false, List, [], ◌++◌, length, take, append-nil, Option, Some, None, refl, sym, ap, ◌∙◌, arith, length-append, inl, inr}
+use Rattle.std.specs.Prelude.{◌↔◌, ◌≢◌, nat_lt, option_map, replicate, unwrap_or, if◌then◌else◌}
 use Rattle.std.specs.Option.{option_map_or, option_or}
 use Rattle.std.proofs.lemmas.Bool.Decides.{leb_tells}
-use Rattle.std.proofs.lemmas.List.{take-append-le, take_all}
+use Rattle.std.proofs.lemmas.Bool.{false≢true}
+use Rattle.std.proofs.lemmas.List.{length-replicate, take-append-le, take_all}
 use Rattle.std.proofs.lemmas.Option.{same_Some}
 use Rattle.std.proofs.Math.Seq.{take-append-add}
 use Rattle.up_base.specs.Lists.{IsPrefix}
 use Rattle.up_model.proofs.FrameMoreBytes.{stays_broken}
 use Rattle.up_model.specs.FrameStreams.{broken_at, cut_at}
-use Rattle.up_model.specs.Outcomes.{too_long, shown_by, outcome_at_end, source_outcome}
+use Rattle.up_model.specs.Outcomes.{Shows, too_long, shown_by, outcome_at_end, source_outcome}
 use Rattle.up_model.specs.declared.form.SourceForm.{SourceForm}
 use Rattle.up_model.specs.declared.form.SourceForm.TheVariants.{Raw, Framed}
 use Rattle.up_model.specs.declared.outcome.Outcome.{Outcome}
@@ -163,3 +164,96 @@ not_fault form limit bytes = by_shown (shown_by form limit bytes) refl
     by_shown : (shown : Option Outcome) → shown_by form limit bytes ≡ shown → is_of_bytes (unwrap_or shown (outcome_at_end form bytes)) ≡ true
     by_shown None shows = end_of_bytes form bytes
     by_shown (Some o) shows = shown_of_bytes o (shown_is_cause form limit bytes o shows)
+
+-- what is shown: a broken field of a frame within the limit
+shown_broken : (form : SourceForm) (limit : ℕ) (bytes : List ℕ) (at : ℕ) → shown_by form limit bytes ≡ Some (BadFrame at)
+    → (form ≡ Framed) × (broken_at (take limit bytes) ≡ Some at)
+shown_broken (Raw block) limit bytes at is = by_length (nat_lt limit (length bytes)) is
+  where
+    by_length : (b : Bool) → (if b then Some (TooLong limit) else None) ≡ Some (BadFrame at) → (Raw block ≡ Framed) × (broken_at (take limit bytes) ≡ Some at)
+    by_length true is = absurd (cc)
+    by_length false is = absurd (cc)
+shown_broken Framed limit bytes at is = (refl, by_place (broken_at (take limit bytes)) is)
+  where
+    by_length : (b : Bool) → (if b then Some (TooLong limit) else None) ≡ Some (BadFrame at) → None ≡ Some at
+    by_length true is = absurd (cc)
+    by_length false is = absurd (cc)
+
+    by_place : (place : Option ℕ) → option_or (option_map BadFrame place) (too_long limit bytes) ≡ Some (BadFrame at) → place ≡ Some at
+    by_place (Some place) is = cc
+    by_place None is = by_length (nat_lt limit (length bytes)) is
+
+broken_is_shown : (form : SourceForm) (limit : ℕ) (bytes : List ℕ) (at : ℕ) → form ≡ Framed → broken_at (take limit bytes) ≡ Some at
+    → shown_by form limit bytes ≡ Some (BadFrame at)
+broken_is_shown (Raw block) limit bytes at framed is = absurd (cc)
+broken_is_shown Framed limit bytes at framed is = broken_shown (broken_at (take limit bytes)) (too_long limit bytes) at is
+
+-- or a byte past it
+long_so : (limit : ℕ) (bytes : List ℕ) (most : ℕ) → too_long limit bytes ≡ Some (TooLong most) → (most ≡ limit) × (limit < length bytes)
+long_so limit bytes most is = elim (leb_tells (suc limit) (length bytes)) [
+  | inl long ↦ (
+    let same : TooLong limit ≡ TooLong most = same_Some (TooLong limit) (TooLong most) (sym (ap (λ b. if b then Some (TooLong limit) else None) long.0) ∙ is) in cc,
+    omega (arith, long.1),
+  )
+  | inr short ↦ absurd (let no : None ≡ Some (TooLong most) = sym (ap (λ b. if b then Some (TooLong limit) else None) short.0) ∙ is in cc)
+]
+
+so_long : (limit : ℕ) (bytes : List ℕ) (most : ℕ) → most ≡ limit → limit < length bytes → too_long limit bytes ≡ Some (TooLong most)
+so_long limit bytes most same past = elim (leb_tells (suc limit) (length bytes)) [
+  | inl long ↦ ap (λ b. if b then Some (TooLong limit) else None) long.0 ∙ ap (λ n. Some (TooLong n)) (sym same)
+  | inr short ↦ absurd (omega (arith, short.1, past))
+]
+
+shown_long : (form : SourceForm) (limit : ℕ) (bytes : List ℕ) (most : ℕ) → shown_by form limit bytes ≡ Some (TooLong most)
+    → (most ≡ limit) × (limit < length bytes) × (form ≡ Framed → broken_at (take limit bytes) ≡ None)
+shown_long (Raw block) limit bytes most is = let long = long_so limit bytes most is in (long.0, long.1, λ framed. absurd (cc))
+shown_long Framed limit bytes most is = by_place (broken_at (take limit bytes)) refl is
+  where
+    by_place : (place : Option ℕ) → broken_at (take limit bytes) ≡ place → option_or (option_map BadFrame place) (too_long limit bytes) ≡ Some (TooLong most)
+        → (most ≡ limit) × (limit < length bytes) × (Framed ≡ Framed → broken_at (take limit bytes) ≡ None)
+    by_place (Some at) broken is = absurd (cc)
+    by_place None unbroken is = let long = long_so limit bytes most is in (long.0, long.1, λ framed. unbroken)
+
+long_shown : (form : SourceForm) (limit : ℕ) (bytes : List ℕ) (most : ℕ) → most ≡ limit → limit < length bytes
+    → (form ≡ Framed → broken_at (take limit bytes) ≡ None) → shown_by form limit bytes ≡ Some (TooLong most)
+long_shown (Raw block) limit bytes most same past unbroken = so_long limit bytes most same past
+long_shown Framed limit bytes most same past unbroken =
+    unbroken_shown (broken_at (take limit bytes)) (too_long limit bytes) (unbroken refl) ∙ so_long limit bytes most same past
+
+pub shown_each : (form : SourceForm) (limit : ℕ) (bytes : List ℕ) (o : Outcome) → (shown_by form limit bytes ≡ Some o) ↔ Shows form limit bytes o
+shown_each form limit bytes Whole = (λ is. false≢true (shown_is_cause form limit bytes Whole is), λ no. absurd no)
+shown_each form limit bytes ReadFault = (λ is. false≢true (shown_is_cause form limit bytes ReadFault is), λ no. absurd no)
+shown_each form limit bytes WriteFault = (λ is. false≢true (shown_is_cause form limit bytes WriteFault is), λ no. absurd no)
+shown_each form limit bytes (BadFrame at) = (shown_broken form limit bytes at, λ is. broken_is_shown form limit bytes at is.0 is.1)
+shown_each form limit bytes (TooLong most) = (
+  shown_long form limit bytes most,
+  λ is. long_shown form limit bytes most is.0 is.1 is.2,
+)
+shown_each form limit bytes Broken = (λ is. false≢true (shown_is_cause form limit bytes Broken is), λ no. absurd no)
+shown_each form limit bytes NoMemory = (λ is. false≢true (shown_is_cause form limit bytes NoMemory is), λ no. absurd no)
+
+-- no bytes are whole whatever comes behind them: some pass the limit
+not_always_whole : (form : SourceForm) (limit : ℕ) (bytes : List ℕ) → ((more : List ℕ) → source_outcome form limit (bytes ++ more) ≡ Whole) → ⊥
+not_always_whole form limit bytes whole =
+    let more = replicate (suc limit) 0 in
+    let within = unshown_within form limit (bytes ++ more) (whole_unshown form limit (bytes ++ more) (whole more)) in
+    omega (arith, within, length-append bytes more, length-replicate {A = ℕ} (suc limit) 0)
+
+-- what is told of all bytes that begin so and isn't shown is a frame that these leave unfinished
+pub told_unshown : (form : SourceForm) (limit : ℕ) (bytes : List ℕ) (o : Outcome) → ((more : List ℕ) → source_outcome form limit (bytes ++ more) ≡ o)
+    → shown_by form limit bytes ≡ None → (form ≡ Framed) × (option_map BadFrame (cut_at bytes) ≡ Some o)
+told_unshown form limit bytes o told none = by_form form refl
+  where
+    at_end : outcome_at_end form bytes ≡ o
+    at_end = sym (unshown_is_at_end form limit bytes none) ∙ ap (source_outcome form limit) (sym (append-nil bytes)) ∙ told []
+
+    not_whole : o ≢ Whole
+    not_whole whole = not_always_whole form limit bytes (λ more. told more ∙ whole)
+
+    by_cut : (cut : Option ℕ) → option_map_or BadFrame cut Whole ≡ o → option_map BadFrame cut ≡ Some o
+    by_cut None is = absurd (not_whole (sym is))
+    by_cut (Some at) is = ap Some is
+
+    by_form : (f : SourceForm) → form ≡ f → (f ≡ Framed) × (option_map BadFrame (cut_at bytes) ≡ Some o)
+    by_form (Raw block) is = absurd (not_whole (sym at_end ∙ ap (λ f. outcome_at_end f bytes) is))
+    by_form Framed is = (refl, by_cut (cut_at bytes) (sym (ap (λ f. outcome_at_end f bytes) is) ∙ at_end))

@@ -8,7 +8,7 @@ use Rattle.up_model.proofs.Lawful.{IsLawful, KeepsOptions, both_are, by_packets,
 use Rattle.up_model.proofs.Packetwise.{KeepsLegal, IsCutOf}
 use Rattle.up_model.specs.KindMeaning.{Setting, admits}
 use Rattle.up_model.specs.Kinds.{setting_of}
-use Rattle.up_model.specs.OptionValues.{IsSet, value_of}
+use Rattle.up_model.specs.OptionValues.{IsSet, option_value}
 use Rattle.up_model.specs.Packet.{PlainPacket, IsLegal}
 use Rattle.up_model.specs.Packetwise.{IfPasses}
 use Rattle.up_model.specs.Skip.{skip_step, skip_setting}
@@ -26,7 +26,7 @@ skip_step_is_legal count packet legal = by_test (nat_le count (length packet.byt
     by_test true = record { few = legal.few; names = legal.names; values = legal.values; size = omega (arith, legal.size, length-drop count packet.bytes) }
     by_test false = tt
 
-other_options : (count value : ℕ) (other : Opt) → other ≢ Offset → value_of (Skip value) other ≡ value_of (Skip count) other
+other_options : (count value : ℕ) (other : Opt) → other ≢ Offset → option_value (Skip value) other ≡ option_value (Skip count) other
 other_options count value Offset apart = absurd (apart refl)
 other_options count value Mtu apart = refl
 other_options count value Align apart = refl

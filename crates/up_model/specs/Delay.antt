@@ -6,6 +6,7 @@ use Rattle.up_model.specs.Dates.{date_name}
 use Rattle.up_model.specs.KindMeaning.{KindMeaning, Setting}
 use Rattle.up_model.specs.Packet.{PlainPacket}
 use Rattle.up_model.specs.Packetwise.{Step, packetwise}
+use Rattle.up_model.specs.Value.{number_bound}
 use Rattle.up_model.specs.declared.date_kind.DateKind.TheVariants.{Sys, Prog, Orig}
 use Rattle.up_model.specs.declared.fan_out.FanOut.TheVariants as fans
 use Rattle.up_model.specs.declared.kind.Kind.TheVariants.{Delay}
@@ -27,7 +28,7 @@ IsShift by = (least_shift ≤ℤ by) × (by ≤ℤ greatest_shift)
 
 -- the sum as a date, where it is a number of 64 bits
 abbrev pub dated : ℤ → Option ℕ
-dated (pos date) = if nat_lt date (2 ^ 64) then Some date else None
+dated (pos date) = if nat_lt date number_bound then Some date else None
 dated (negsuc below) = None
 
 -- the attributes with this date under the name, or without the name
@@ -35,10 +36,14 @@ abbrev pub with_date : List ℕ → Attrs → Option ℕ → Attrs
 with_date name attrs None = remove attrs name
 with_date name attrs (Some date) = insert attrs name (Unsigned date)
 
+-- the date, moved
+abbrev pub moved_date : ℤ → ℕ → Option ℕ
+moved_date by date = dated (pos date +ℤ by)
+
 -- the number under the name, moved; what is no number stays
 abbrev pub moved_from : ℤ → List ℕ → Attrs → Option ℕ → Attrs
 moved_from by name attrs None = attrs
-moved_from by name attrs (Some date) = with_date name attrs (dated (pos date +ℤ by))
+moved_from by name attrs (Some date) = with_date name attrs (moved_date by date)
 
 abbrev pub moved : ℤ → List ℕ → Attrs → Attrs
 moved by name attrs = moved_from by name attrs (unsigned_at name attrs)
@@ -48,12 +53,12 @@ abbrev pub delayed : ℤ → Attrs → Attrs
 delayed by attrs =
     moved by (date_name Orig) (moved by (date_name Prog) (moved by (date_name Sys) attrs))
 
--- what stands under a date's name, moved: a number becomes the sum, or goes; all else stays
+-- what then stands under a date's name, for the law that says it of each: a number becomes the sum, or goes; all else stays
 abbrev pub moved_value : ℤ → Option Value → Option Value
 moved_value by None = None
 moved_value by (Some Void) = Some Void
 moved_value by (Some (Flag flag)) = Some (Flag flag)
-moved_value by (Some (Unsigned date)) = option_map Unsigned (dated (pos date +ℤ by))
+moved_value by (Some (Unsigned date)) = option_map Unsigned (moved_date by date)
 moved_value by (Some (Words text)) = Some (Words text)
 moved_value by (Some (Opaque bytes)) = Some (Opaque bytes)
 

@@ -69,6 +69,12 @@ abbrev pub is_sink : Kind → Bool
 is_sink (Sink path form) = true
 is_sink kind = false
 
+-- a source of frames
+abbrev pub reads_frames : Kind → Bool
+reads_frames (Source path (source_forms.Raw block) limit) = false
+reads_frames (Source path source_forms.Framed limit) = true
+reads_frames kind = false
+
 -- neither a source nor a sink
 abbrev pub is_between : Kind → Bool
 is_between kind = not (is_source kind) && not (is_sink kind)

@@ -1,5 +1,5 @@
--- What each kind of pipe does with a whole flow. The one match that names every kind is `meaning_of`.
-use Rattle.std.specs.Prelude.{ℕ, ℤ, List, Option, Some, None, unwrap_or}
+-- What each kind of pipe does with a whole flow. `meaning_of` names every kind, and so do the two classes of kinds of which laws speak.
+use Rattle.std.specs.Prelude.{ℕ, ℤ, Bool, true, false, List, Option, Some, None, unwrap_or}
 use Rattle.up_model.specs.DelAttr.{delattr_meaning}
 use Rattle.up_model.specs.Delay.{delay_meaning}
 use Rattle.up_model.specs.Ends.{source_meaning, sink_meaning}
@@ -28,6 +28,32 @@ meaning_of (SetAttr attr value) = setattr_meaning attr value
 meaning_of (DelAttr attr) = delattr_meaning attr
 meaning_of (MatchAttr attr low high) = match_attr_meaning attr low high
 meaning_of (Delay by) = delay_meaning by
+
+-- it looks at each packet by itself: it puts it out or drops it, and joins, splits and makes up none
+abbrev pub is_packetwise : Kind → Bool
+is_packetwise (Source path form limit) = false
+is_packetwise (Sink path form) = false
+is_packetwise Idem = true
+is_packetwise Null = true
+is_packetwise Dup = true
+is_packetwise (Skip bytes) = true
+is_packetwise (SetAttr attr value) = true
+is_packetwise (DelAttr attr) = true
+is_packetwise (MatchAttr attr low high) = true
+is_packetwise (Delay by) = true
+
+-- it puts out every packet that it takes, with all of its bytes
+abbrev pub keeps_bytes : Kind → Bool
+keeps_bytes (Source path form limit) = false
+keeps_bytes (Sink path form) = false
+keeps_bytes Idem = true
+keeps_bytes Null = false
+keeps_bytes Dup = true
+keeps_bytes (Skip bytes) = false
+keeps_bytes (SetAttr attr value) = false
+keeps_bytes (DelAttr attr) = true
+keeps_bytes (MatchAttr attr low high) = false
+keeps_bytes (Delay by) = true
 
 -- its fields are within their bounds
 abbrev pub IsWithinBounds : Kind → Type 0

@@ -1,9 +1,11 @@
 -- The kind `match_attr`: passes the packets whose attribute is a number within bounds, and drops all others.
-use Rattle.std.specs.Prelude.{ℕ, ◌-◌, ◌^◌, ◌<◌, ◌≤◌, pos, Bool, false, ◌&&◌, nat_le, List, Option, Some, None, if◌then◌else◌}
+use Rattle.std.specs.Prelude.{ℕ, ◌-◌, ◌<◌, ◌≤◌, pos, Bool, false, List, Option, Some, None, if◌then◌else◌}
 use Rattle.std.specs.Int.RustNames.{unsigned_abs}
+use Rattle.up_base.specs.Name.{is_within}
 use Rattle.up_model.specs.Attrs.{unsigned_at}
 use Rattle.up_model.specs.KindMeaning.{KindMeaning, Setting}
 use Rattle.up_model.specs.Packetwise.{Step, packetwise}
+use Rattle.up_model.specs.Value.{number_bound}
 use Rattle.up_model.specs.declared.fan_out.FanOut.TheVariants as fans
 use Rattle.up_model.specs.declared.kind.Kind.TheVariants.{MatchAttr}
 use Rattle.up_model.specs.declared.opt.Opt.{Opt}
@@ -12,17 +14,17 @@ use Rattle.up_model.specs.declared.verdict.Verdict.TheVariants.{Passes, Drops}
 
 -- the least number that is matched, and the greatest, which has 64 bits
 abbrev pub AreBounds : ℕ → ℕ → Type 0
-AreBounds low high = (low ≤ high) × (high < 2 ^ 64)
+AreBounds low high = (low ≤ high) × (high < number_bound)
 
--- the number is there, and lies from the least to the greatest, both included
-abbrev pub lies_within : ℕ → ℕ → Option ℕ → Bool
-lies_within low high None = false
-lies_within low high (Some number) = nat_le low number && nat_le number high
+-- the number is there, and is one of them
+abbrev pub is_matched : ℕ → ℕ → Option ℕ → Bool
+is_matched low high None = false
+is_matched low high (Some number) = is_within low high number
 
 -- each packet as it is, or none
 abbrev pub match_attr_step : List ℕ → ℕ → ℕ → Step
 match_attr_step attr low high packet =
-    if lies_within low high (unsigned_at attr packet.attrs) then Passes packet 0 else Drops
+    if is_matched low high (unsigned_at attr packet.attrs) then Passes packet 0 else Drops
 
 abbrev pub match_attr_setting : List ℕ → ℕ → ℕ → Opt → Option Setting
 match_attr_setting attr low high Low = Some (record {
@@ -34,7 +36,7 @@ match_attr_setting attr low high Low = Some (record {
 match_attr_setting attr low high High = Some (record {
   value = pos high;
   low = pos low;
-  high = pos (2 ^ 64 - 1);
+  high = pos (number_bound - 1);
   set = λ value. MatchAttr attr low (unsigned_abs value);
 })
 match_attr_setting attr low high Mtu = None

@@ -5,12 +5,12 @@ use Rattle.up_model.specs.declared.kind.Kind.{Kind}
 use Rattle.up_model.specs.declared.opt.Opt.{Opt}
 
 -- the value of an option, where the kind has it
-abbrev pub value_of : Kind → Opt → Option ℤ
-value_of kind option = option_map (λ setting. setting.value) (setting_of kind option)
+abbrev pub option_value : Kind → Opt → Option ℤ
+option_value kind option = option_map (λ setting. setting.value) (setting_of kind option)
 
 -- the option has this value, every other as before, setting it back gives the old kind, and what was within its bounds still is
 pub record IsSet (option : Opt) (value : ℤ) (old new : Kind) : Type 0 where
-  pub has : value_of new option ≡ Some value
-  pub others : (other : Opt) → other ≢ option → value_of new other ≡ value_of old other
-  pub back : (was : ℤ) → value_of old option ≡ Some was → with_option new option was ≡ old
+  pub has : option_value new option ≡ Some value
+  pub others : (other : Opt) → other ≢ option → option_value new other ≡ option_value old other
+  pub back : (was : ℤ) → option_value old option ≡ Some was → with_option new option was ≡ old
   pub within : IsWithinBounds old → IsWithinBounds new

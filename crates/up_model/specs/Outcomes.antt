@@ -1,5 +1,5 @@
 -- How the pipes of a graph end, and what a source then carried.
-use Rattle.std.specs.Prelude.{ℕ, Bool, true, false, List, [], length, take, position, nat_lt, slice_get, Option, Some, None, option_and_then, option_map, unwrap_or, if◌then◌else◌}
+use Rattle.std.specs.Prelude.{◌≡◌, ◌<◌, ℕ, Bool, true, false, List, [], length, take, position, nat_lt, slice_get, Option, Some, None, option_and_then, option_map, unwrap_or, if◌then◌else◌}
 use Rattle.std.specs.Option.{option_map_or, option_or}
 use Rattle.up_model.specs.Cutting.{blocks, full_blocks}
 use Rattle.up_model.specs.FrameStreams.{broken_at, cut_at, whole_frames}
@@ -31,6 +31,19 @@ outcome_at_end Framed bytes = option_map_or BadFrame (cut_at bytes) Whole
 -- the outcome of a source of the form that could give these bytes, where no read fails
 abbrev pub source_outcome : SourceForm → ℕ → List ℕ → Outcome
 source_outcome form limit bytes = unwrap_or (shown_by form limit bytes) (outcome_at_end form bytes)
+
+-- when bytes of the form show each outcome: a frame within the limit has a field that is all there and broken; else there is a byte past
+-- the limit. No other is ever shown
+abbrev pub Shows : SourceForm → ℕ → List ℕ → Outcome → Type 0
+Shows form limit bytes Whole = ⊥
+Shows form limit bytes ReadFault = ⊥
+Shows form limit bytes WriteFault = ⊥
+Shows form limit bytes (BadFrame offset) =
+    (form ≡ Framed) × (broken_at (take limit bytes) ≡ Some offset)
+Shows form limit bytes (TooLong most) = (most ≡ limit) × (limit < length bytes)
+    × (form ≡ Framed → broken_at (take limit bytes) ≡ None)
+Shows form limit bytes Broken = ⊥
+Shows form limit bytes NoMemory = ⊥
 
 -- the packets that bytes of the form hold, where these are all of them
 abbrev pub packets_of : SourceForm → List ℕ → Flow

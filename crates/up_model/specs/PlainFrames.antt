@@ -1,4 +1,4 @@
--- What the functions of the plain program of frames answer.
+-- What the functions of the plain program of frames answer, and those of a reader, by the same word.
 use Rattle.std.specs.Prelude.{◌≡◌, ℕ, List, Result, Ok, Err}
 use Rattle.std.specs.Borrow.{Bor}
 use Rattle.up_model.specs.FrameFronts.{content_at, packet_at}

@@ -85,6 +85,11 @@ of_passed bytes = record { taken = 1; put = 1; dropped = 0; cut = bytes; gained 
 abbrev pub of_dropped : ℕ → Tally
 of_dropped bytes = record { taken = 1; put = 0; dropped = 1; cut = bytes; gained = 0; lost = 0 }
 
+-- these packets were taken, and put out with all of their bytes
+abbrev pub of_kept : Flow → Tally
+of_kept taken =
+    record { taken = length taken; put = length taken; dropped = 0; cut = 0; gained = 0; lost = 0 }
+
 -- a source put these packets out
 abbrev pub of_source : Flow → Tally
 of_source put = record { taken = 0; put = length put; dropped = 0; cut = 0; gained = 0; lost = 0 }

@@ -15,11 +15,15 @@ lent (views.Unsigned number) = Unsigned number
 lent (views.Words text) = Words text.now
 lent (views.Opaque bytes) = Opaque bytes.now
 
+-- numbers have 64 bits: each is below this
+abbrev pub number_bound : ℕ
+number_bound = 2 ^ 64
+
 -- a number of 64 bits, a text in UTF-8, and text and bytes of at most 4,096 bytes
 abbrev pub IsLegalValue : Value → Type 0
 IsLegalValue Void = Unit {0}
 IsLegalValue (Flag flag) = Unit {0}
-IsLegalValue (Unsigned number) = number < 2 ^ 64
+IsLegalValue (Unsigned number) = number < number_bound
 IsLegalValue (Words text) = (is_utf8 text ≡ true) × (length text ≤ MAX_VALUE)
 IsLegalValue (Opaque bytes) = length bytes ≤ MAX_VALUE
 

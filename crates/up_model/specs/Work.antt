@@ -1,7 +1,7 @@
 -- What a pipe has put out and counted.
-use Rattle.std.specs.Prelude.{◌≡◌, ◌+◌, [], length}
+use Rattle.std.specs.Prelude.{◌≡◌, ◌+◌, [], length, map}
 use Rattle.up_model.specs.Packet.{Flow, joined}
-use Rattle.up_model.specs.Tallies.{nothing}
+use Rattle.up_model.specs.Tallies.{nothing, of_kept}
 use Rattle.up_model.specs.declared.tally.Tally.{Tally}
 
 pub record Work : Type 0 where
@@ -25,3 +25,8 @@ pub record PutsOrDrops (work : Work) : Type 0 where
   pub packets : work.tally.put + work.tally.dropped ≡ work.tally.taken
   pub gained : work.tally.gained ≡ 0
   pub lost : work.tally.lost ≡ 0
+
+-- the packets that were put out have the bytes of those that were taken, one by one, and the sums count all as put, and nothing else
+pub record PutsAll (work : Work) (taken : Flow) : Type 0 where
+  pub bytes : map (λ packet. packet.bytes) work.flow ≡ map (λ packet. packet.bytes) taken
+  pub sums : work.tally ≡ of_kept taken

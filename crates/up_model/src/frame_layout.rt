@@ -1,9 +1,9 @@
-// The fixed numbers of a frame: docs/FRAMES.md has the whole format.
+// What all code of frames shares: their fixed numbers, and how bytes may hold none. docs/FRAMES.md has the whole format.
 
-/// The first byte of each frame.
+/// The mark of a frame, its first byte: the letter `F`.
 pub const MARK: u8 = 0x46;
 
-/// The second byte of each frame, which tells by which rules the rest is spelled.
+/// The version of a frame, its second byte, which tells by which rules the rest is spelled.
 pub const VERSION: u8 = 1;
 
 /// Why no whole frame stands at the front of some bytes.

@@ -1,9 +1,9 @@
 // Laws of whole graphs. A law is the contract of a function that does nothing.
-ghost use Rattle.std.specs.Prelude.{◌≡◌, ◌<◌, ◌≤◌, ◌++◌, [], ℕ, false, List, All, length, slice_get, Some};
+ghost use Rattle.std.specs.Prelude.{◌≡◌, ◌<◌, ◌≤◌, ◌++◌, [], ℕ, true, false, List, All, length, slice_get, Some};
 ghost use Rattle.std.specs.Option.{IsSome};
 ghost use Rattle.up_base.specs.Lists.{IsPrefix};
 ghost use Rattle.up_base.specs.Number.{AreBytes};
-ghost use Rattle.up_model.specs.Ends.{is_source, path_of};
+ghost use Rattle.up_model.specs.Ends.{is_source, path_of, reads_frames};
 ghost use Rattle.up_model.specs.Inputs.{PipeTest, consumer_count, reached_within, reached, source_of};
 ghost use Rattle.up_model.specs.Kinds.{IsWithinBounds, fan_out_of};
 ghost use Rattle.up_model.specs.Meaning.{Doing, Feeding, so_far, wholly, is_fed_by, to_sources, IsFedMore, MeetsAll, taken_at, flow_by, pipe_work, flow_at, input_of, sink_bytes, settled_flow, settled_input, settled_bytes};
@@ -134,7 +134,8 @@ pub fn carried_bytes_come_first()
         (sink_bytes pipes (source_flows pipes (λ source. bytes source ++ more source)) sink) }
 {}
 
-/// In a well-formed graph all packets are legal where those of the sources are, and these are legal where they are made of bytes.
+/// In a well-formed graph all packets are legal where those of the sources are, and these are legal, those of frames where
+/// they are made of bytes.
 pub fn flows_stay_legal()
     ensures put { (pipes : List ThePipe) (given : ℕ → Flow) (place : ℕ) → IsWellFormed pipes
         → ((source : ℕ) → All IsLegal (given source)) → All IsLegal (flow_at pipes given place) }
@@ -147,6 +148,8 @@ pub fn flows_stay_legal()
         → IsWellFormed pipes → ((source : ℕ) → All IsLegal (given source))
         → All IsLegal (settled_input pipes given pipe) }
     ensures sources { (pipes : List ThePipe) (ends : ℕ → TheOutcome) (bytes : ℕ → List ℕ)
-        (place : ℕ) → IsWellFormed pipes → AreBytes (bytes place)
+        (place : ℕ) → IsWellFormed pipes
+        → ((pipe : ThePipe) → slice_get pipes place ≡ Some pipe → reads_frames pipe.kind ≡ true
+        → AreBytes (bytes place))
         → All IsLegal (carried_flows pipes ends bytes place) }
 {}

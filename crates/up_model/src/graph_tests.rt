@@ -6,6 +6,7 @@ use crate::{
     Value,
 };
 use std::alloc::Global;
+use std::process::Abort;
 use std::string::String;
 use std::test::Fail;
 use up_base::{AttrName, Bytes, PipeName, Text, WorkerName};
@@ -36,6 +37,23 @@ fn sink(alloc: Global, path: &str) -> Result<Kind, Fail> {
     Ok(Kind::Sink {
         path: Text::from_str(alloc, path)?,
         form: SinkForm::Raw,
+    })
+}
+
+/// A source of frames.
+fn frame_source(alloc: Global, path: &str, limit: u64) -> Result<Kind, Fail> {
+    Ok(Kind::Source {
+        path: Text::from_str(alloc, path)?,
+        form: SourceForm::Framed,
+        limit,
+    })
+}
+
+/// A sink of frames.
+fn frame_sink(alloc: Global, path: &str) -> Result<Kind, Fail> {
+    Ok(Kind::Sink {
+        path: Text::from_str(alloc, path)?,
+        form: SinkForm::Framed,
     })
 }
 
@@ -260,6 +278,33 @@ fn a_path_has_1_to_4096_bytes_and_no_zero(rt: HostRuntime) -> Result<(), Fail> {
         );
     }
     assert!(rt; !sink(alloc, "a\0b")?.is_within_bounds());
+    Ok(())
+}
+
+/// Whether a kind is within its bounds.
+fn assert_bounds(rt: &impl Abort, kind: &Kind, wanted: bool) {
+    assert_eq!(rt; kind.is_within_bounds(), wanted);
+}
+
+#[test]
+fn the_paths_of_ends_of_frames_have_bounds(rt: HostRuntime) -> Result<(), Fail> {
+    let alloc = rt.alloc();
+    for (count, wanted) in [(0, false), (1, true), (4_096, true), (4_097, false)] {
+        let path = letters(alloc, count)?;
+        assert_bounds(&rt, &frame_source(alloc, path.as_str(), 0)?, wanted);
+        assert_bounds(&rt, &frame_sink(alloc, path.as_str())?, wanted);
+    }
+    assert_bounds(&rt, &frame_source(alloc, "a\0b", 0)?, false);
+    assert_bounds(&rt, &frame_sink(alloc, "a\0b")?, false);
+    Ok(())
+}
+
+#[test]
+fn the_limit_of_a_source_of_frames_has_bounds(rt: HostRuntime) -> Result<(), Fail> {
+    let alloc = rt.alloc();
+    assert_bounds(&rt, &frame_source(alloc, "in", 1_099_511_627_776)?, true);
+    assert_bounds(&rt, &frame_source(alloc, "in", 1_099_511_627_777)?, false);
+    assert_bounds(&rt, &frame_source(alloc, "in", u64::MAX)?, false);
     Ok(())
 }
 

@@ -32,7 +32,8 @@ pub enum Kind {
     Skip {
         bytes: u32,
     },
-    /// Puts out each packet with this attribute, and drops one that would then have more than 64.
+    /// Puts out each packet with this attribute, in place of one of its name, and drops one that would then have more than
+    /// 64. A text or opaque value has at most 4,096 bytes.
     SetAttr {
         attr: AttrName,
         value: Value,
@@ -41,13 +42,15 @@ pub enum Kind {
     DelAttr {
         attr: AttrName,
     },
-    /// Puts out the packets whose attribute of this name is a number from `low` to `high`, both included, and drops the others.
+    /// Puts out the packets whose attribute of this name is a number from `low` to `high`, both included, and drops the
+    /// others. `low` is at most `high`, and both have the unit of the attribute.
     MatchAttr {
         attr: AttrName,
         low: u64,
         high: u64,
     },
-    /// Adds `by` to each date of a packet, and takes away a date that would be below 0 or above 2^64 - 1.
+    /// Adds `by`, which is ticks of 1/27,000,000 second from -2^63 to 2^63 - 1, to each date of a packet, and takes away a
+    /// date that would be below 0 or above 2^64 - 1.
     Delay {
         by: i64,
     },
@@ -67,7 +70,7 @@ fn is_path(path: &Text) -> bool
     !bytes.is_empty() && bytes.len() <= MAX_PATH && !has_zero(bytes)
 }
 
-/// Whether the value is legal. The name is one by its type.
+/// Whether the value is legal. The name is one by its type: to read its bytes is what says so.
 fn is_attribute(attr: &AttrName, value: &Value) -> bool
     ensures { IsTrue result ↔ IsAttribute attr.now value.now }
 {
@@ -166,6 +169,7 @@ impl Kind {
             Kind::Skip { bytes } => *bytes <= MAX_PACKET,
             Kind::SetAttr { attr, value } => is_attribute(attr, value),
             Kind::MatchAttr { attr: _, low, high } => low <= high,
+            // Every `i64` is a shift: the comparison always holds, and is what says so.
             Kind::Delay { by } => i64::MIN <= *by && *by <= i64::MAX,
             Kind::Idem | Kind::Null | Kind::Dup | Kind::DelAttr { .. } => true,
         }

@@ -1,5 +1,5 @@
 // Laws of the definitions. A law is the contract of a function that does nothing.
-ghost use Rattle.std.specs.Prelude.{◌≡◌, ◌≢◌, ◌<◌, ◌+◌, ◌++◌, [], ℕ, ◌≤◌, ℤ, true, None, Option, List, All, length, map, slice_get, Some};
+ghost use Rattle.std.specs.Prelude.{◌≡◌, ◌≢◌, ◌<◌, ◌+◌, ◌++◌, ◌↔◌, [], ℕ, ◌≤◌, ℤ, true, None, Option, List, All, length, map, option_map, slice_get, Some};
 ghost use Rattle.std.specs.FinMap.{get};
 ghost use Rattle.up_base.specs.Lists.{IsPrefix};
 ghost use Rattle.up_base.specs.Number.{AreBytes};
@@ -8,17 +8,19 @@ ghost use Rattle.up_model.specs.Chain.{IsChain};
 ghost use Rattle.up_model.specs.Cutting.{blocks};
 ghost use Rattle.up_model.specs.Dates.{date_name};
 ghost use Rattle.up_model.specs.Delay.{delayed, delayed_packet, moved_value};
-ghost use Rattle.up_model.specs.Ends.{is_between};
+ghost use Rattle.up_model.specs.Ends.{reads_frames};
+ghost use Rattle.up_model.specs.FrameStreams.{cut_at};
 ghost use Rattle.up_model.specs.KindMeaning.{Setting, admits};
-ghost use Rattle.up_model.specs.Kinds.{IsWithinBounds, output_of, settled_output, settled_work, work_of, setting_of, with_option, share_of, module_kind};
+ghost use Rattle.up_model.specs.Kinds.{IsWithinBounds, is_packetwise, keeps_bytes, output_of, settled_output, settled_work, work_of, setting_of, with_option, share_of, module_kind};
 ghost use Rattle.up_model.specs.Meaning.{sink_bytes};
 ghost use Rattle.up_model.specs.OptionValues.{IsSet};
-ghost use Rattle.up_model.specs.Outcomes.{carried_as, shown_by, source_outcome};
+ghost use Rattle.up_model.specs.Outcomes.{Shows, carried_as, shown_by, source_outcome};
 ghost use Rattle.up_model.specs.Packet.{Flow, IsLegal, joined};
 ghost use Rattle.up_model.specs.Tallies.{IsAtMost, nothing, plus, added, stopped};
-ghost use Rattle.up_model.specs.Work.{no_work, Counts, CutsTheRest, PutsOrDrops};
+ghost use Rattle.up_model.specs.Work.{no_work, Counts, CutsTheRest, PutsAll, PutsOrDrops};
 ghost use Rattle.up_model.specs.declared.date_kind.DateKind.{DateKind as TheDate};
 ghost use Rattle.up_model.specs.declared.form.SourceForm.{SourceForm as TheForm};
+ghost use Rattle.up_model.specs.declared.form.SourceForm.TheVariants as forms;
 ghost use Rattle.up_model.specs.declared.kind.Kind.{Kind as TheKind};
 ghost use Rattle.up_model.specs.declared.kind.Kind.TheVariants as kinds;
 ghost use Rattle.up_model.specs.declared.limits.TheConstants.{MAX_PID};
@@ -72,10 +74,17 @@ pub fn sums_count_packets()
         → Counts (work_of kind taken) taken }
 {}
 
-/// Of each packet that a kind between the ends took one was put out or dropped, and none was gained or lost.
+/// Each packet that a packetwise kind took was put out or dropped, and synchronisation was neither gained nor lost.
 pub fn packets_are_put_or_dropped()
-    ensures { (kind : TheKind) (taken : Flow) → is_between kind ≡ true
+    ensures { (kind : TheKind) (taken : Flow) → is_packetwise kind ≡ true
         → PutsOrDrops (work_of kind taken) }
+{}
+
+/// A kind that keeps bytes puts out every packet that it took, with all of its bytes, and counts none as dropped and no
+/// byte as cut.
+pub fn nothing_is_cut()
+    ensures { (kind : TheKind) (taken : Flow) → keeps_bytes kind ≡ true
+        → PutsAll (work_of kind taken) taken }
 {}
 
 /// What a kind between the ends cuts and what it puts out are the bytes that it took.
@@ -124,15 +133,20 @@ pub fn shares_are_lawful()
         → All (λ number. number ≤ MAX_PID) numbers → IsWithinBounds (module_kind numbers kind) }
 {}
 
-/// What a source within its bounds carries of bytes, however it ends, is legal packets.
+/// What a source within its bounds carries, however it ends, is legal packets; one of frames where what it is given are
+/// bytes.
 pub fn carried_is_legal()
     ensures { (outcome : TheOutcome) (kind : TheKind) (bytes : List ℕ) → IsWithinBounds kind
-        → AreBytes bytes → All IsLegal (carried_as outcome kind bytes) }
+        → (reads_frames kind ≡ true → AreBytes bytes)
+        → All IsLegal (carried_as outcome kind bytes) }
 {}
 
-/// What bytes show of a source whatever comes behind them is told of all bytes that begin so: those of no more than the limit that
-/// aren't broken show nothing, and only what is shown, or unfinished at the end, is told.
+/// What bytes show of a source is told of all bytes that begin so. They show a field of a frame that is broken within the
+/// limit, else a byte past it, and nothing else; where they show nothing, they are within the limit. Of a whole source they
+/// show nothing. What is told of all bytes that begin so and isn't shown yet is a frame that they leave unfinished.
 pub fn what_is_shown_stays()
+    ensures each { (form : TheForm) (limit : ℕ) (bytes : List ℕ) (outcome : TheOutcome)
+        → (shown_by form limit bytes ≡ Some outcome) ↔ Shows form limit bytes outcome }
     ensures stays { (form : TheForm) (limit : ℕ) (bytes more : List ℕ) (outcome : TheOutcome)
         → shown_by form limit bytes ≡ Some outcome
         → source_outcome form limit (bytes ++ more) ≡ outcome }
@@ -140,6 +154,10 @@ pub fn what_is_shown_stays()
         → shown_by form limit bytes ≡ None → length bytes ≤ limit }
     ensures whole { (form : TheForm) (limit : ℕ) (bytes : List ℕ)
         → source_outcome form limit bytes ≡ outcomes.Whole → shown_by form limit bytes ≡ None }
+    ensures only { (form : TheForm) (limit : ℕ) (bytes : List ℕ) (outcome : TheOutcome)
+        → ((more : List ℕ) → source_outcome form limit (bytes ++ more) ≡ outcome)
+        → shown_by form limit bytes ≡ None
+        → (form ≡ forms.Framed) × (option_map outcomes.BadFrame (cut_at bytes) ≡ Some outcome) }
 {}
 
 /// An option lies within its own bounds. A value within them is set in that option alone, and the kind stays within its

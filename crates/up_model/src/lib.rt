@@ -71,7 +71,7 @@ pub use graph_laws::{
 pub use kind::Kind;
 pub use laws::{
     blocks_rejoin, carried_is_legal, chain_copies, cut_is_the_rest, dates_are_moved,
-    kept_sums_stop, options_are_set, outputs_are_legal, packets_are_put_or_dropped,
+    kept_sums_stop, nothing_is_cut, options_are_set, outputs_are_legal, packets_are_put_or_dropped,
     settled_is_prefix, settled_sums_grow, shares_are_lawful, starts_with_nothing, sums_add_up,
     sums_count_packets, what_is_shown_stays,
 };

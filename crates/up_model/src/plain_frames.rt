@@ -15,8 +15,8 @@ use crate::{
 use std::alloc::Global;
 use up_base::{AttrName, Bytes, NoMemory, Text};
 
-/// The longest name, in bytes.
-const MAX_NAME: u64 = 64;
+/// The longest name, in bytes: `NAME_SIZE` of `up_base`, which is private there.
+const NAME_SIZE: u64 = 64;
 
 /// The name of an attribute behind another, its value, and what is behind the attribute.
 #[tactic(auto, unfolding(crate::specs::FrameFronts::attribute_at))]
@@ -28,7 +28,7 @@ fn attribute_at<'a>(
         (attribute_at before.now bytes.now) }
     ensures name { IfOk result (λ x. is_name x.0.now ≡ true) }
 {
-    let (size, rest) = number_at(bytes, 1, 1, MAX_NAME)?;
+    let (size, rest) = number_at(bytes, 1, 1, NAME_SIZE)?;
     let (name, rest) = name_at(rest, size as usize, before)?;
     let (type_, rest) = type_at(rest)?;
     let (value, rest) = value_at(rest, type_)?;

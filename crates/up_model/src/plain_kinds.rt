@@ -1,10 +1,10 @@
 // What each kind that looks at each packet by itself does with a packet.
-ghost use Rattle.std.specs.Prelude.{◌≡◌, ◌+ℤ◌, pos, OnOk};
+ghost use Rattle.std.specs.Prelude.{◌≡◌, OnOk};
 ghost use Rattle.std.specs.FinMap.{insert};
 ghost use Rattle.up_model.specs.Attrs.{unsigned_at};
 ghost use Rattle.up_model.specs.Dates.{date_name};
 ghost use Rattle.up_model.specs.DelAttr.{delattr_step};
-ghost use Rattle.up_model.specs.Delay.{dated, moved, delay_step};
+ghost use Rattle.up_model.specs.Delay.{moved, moved_date, delay_step};
 ghost use Rattle.up_model.specs.MatchAttr.{match_attr_step};
 ghost use Rattle.up_model.specs.Packetwise.{passes_on, drops};
 ghost use Rattle.up_model.specs.SetAttr.{setattr_step};
@@ -132,7 +132,7 @@ impl PlainStep for TakesAway {
 }
 
 /// The number that the attribute is, where it is there and a number.
-fn number_at(attrs: &PlainAttrs, name: &AttrName) -> Option<u64>
+fn unsigned_at(attrs: &PlainAttrs, name: &AttrName) -> Option<u64>
     ensures { result ≡ unsigned_at name.now attrs.now }
 {
     match attrs.get(name) {
@@ -157,7 +157,7 @@ impl PlainStep for Matches {
         alloc: Global,
         packet: &PlainPacket,
     ) -> Result<Verdict<PlainPacket>, NoMemory> {
-        match number_at(&packet.attrs, &self.attr) {
+        match unsigned_at(&packet.attrs, &self.attr) {
             Some(number) if self.low <= number && number <= self.high => Ok(Verdict::Passes {
                 packet: packet.copy(alloc)?,
                 cut: 0,
@@ -169,7 +169,7 @@ impl PlainStep for Matches {
 
 /// The date, moved, where that is a number of 64 bits.
 fn moved_date(date: u64, by: i64) -> Option<u64>
-    ensures { result ≡ dated (pos date +ℤ by) }
+    ensures { result ≡ moved_date by date }
 {
     if by < 0 {
         date.checked_sub(by.unsigned_abs())
@@ -182,7 +182,7 @@ fn moved_date(date: u64, by: i64) -> Option<u64>
 fn move_attr(attrs: &mut PlainAttrs, name: AttrName, by: i64) -> Result<(), NoMemory>
     ensures { OnOk result (attrs.new ≡ moved by name attrs.old) }
 {
-    let Some(date) = number_at(attrs, &name) else {
+    let Some(date) = unsigned_at(attrs, &name) else {
         return Ok(());
     };
     match moved_date(date, by) {

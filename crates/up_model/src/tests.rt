@@ -118,10 +118,31 @@ fn the_first_pipe_with_a_fault_of_its_own_decides(rt: HostRuntime) -> Result<(),
 }
 
 #[test]
+fn each_fault_of_a_pipe_decides_and_no_other_outcome(rt: HostRuntime) -> Result<(), Fail> {
+    for (outcome, decides) in [
+        (Outcome::Whole, None),
+        (Outcome::ReadFault, Some(1)),
+        (Outcome::WriteFault, Some(1)),
+        (Outcome::BadFrame { offset: 0 }, Some(1)),
+        (Outcome::TooLong { limit: 0 }, Some(1)),
+        (Outcome::Broken, None),
+        (Outcome::NoMemory, None),
+    ] {
+        let mut outcomes = OutcomeList::new(rt.alloc());
+        outcomes.push(Outcome::Broken)?;
+        outcomes.push(outcome)?;
+        assert_eq!(rt; deciding(&outcomes), decides);
+    }
+    Ok(())
+}
+
+#[test]
 fn a_source_breaks_the_pipes_behind_it(rt: HostRuntime) {
     for (source, behind) in [
         (Outcome::Whole, Outcome::Whole),
         (Outcome::ReadFault, Outcome::Broken),
+        (Outcome::WriteFault, Outcome::Broken),
+        (Outcome::BadFrame { offset: 0 }, Outcome::Broken),
         (Outcome::TooLong { limit: 5 }, Outcome::Broken),
         (Outcome::Broken, Outcome::Broken),
         (Outcome::NoMemory, Outcome::Broken),
