@@ -1,3 +1,5 @@
+pub mod Aggregate
+pub mod AggregateExamples
 pub mod AlongInputs
 pub mod AttrLists
 pub mod Blocks
@@ -5,6 +7,9 @@ pub mod BrokenExamples
 pub mod Carried
 pub mod CarriedFlows
 pub mod Chains
+pub mod Chunk
+pub mod ChunkBytes
+pub mod ChunkExamples
 pub mod Counting
 pub mod Cuts
 pub mod CuttingExamples
@@ -30,6 +35,8 @@ pub mod FrameSteady
 pub mod FrameStreams
 pub mod FrameValues
 pub mod FramedExamples
+pub mod GenAux
+pub mod GenAuxExamples
 pub mod GraphFlows
 pub mod GrownBytes
 pub mod InputsExamples
@@ -48,6 +55,9 @@ pub mod OutcomeExamples
 pub mod PacketExamples
 pub mod Packets
 pub mod Packetwise
+pub mod Parts
+pub mod PidFilter
+pub mod PidFilterExamples
 pub mod Places
 pub mod PlainExamples
 pub mod PlainFlows
@@ -65,8 +75,17 @@ pub mod Skip
 pub mod SkipExamples
 pub mod SortedEntries
 pub mod Steps
+pub mod Swap16
+pub mod Swap16Examples
 pub mod TallyExamples
 pub mod TreeExamples
+pub mod TsCheck
+pub mod TsCheckExamples
+pub mod TsSplit
+pub mod TsSplitExamples
+pub mod TsSync
+pub mod TsSyncExamples
+pub mod TsSyncPackets
 pub mod ValueExamples
 pub mod Ways
 pub mod WellFormed

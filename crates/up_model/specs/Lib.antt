@@ -1,5 +1,7 @@
+pub mod Aggregate
 pub mod Attrs
 pub mod Chain
+pub mod Chunk
 pub mod Cutting
 pub mod Dates
 pub mod DelAttr
@@ -9,6 +11,7 @@ pub mod FaultTests
 pub mod FrameFronts
 pub mod FrameSpelling
 pub mod FrameStreams
+pub mod GenAux
 pub mod Inputs
 pub mod KindMeaning
 pub mod Kinds
@@ -18,13 +21,19 @@ pub mod OptionValues
 pub mod Outcomes
 pub mod Packet
 pub mod Packetwise
+pub mod Parts
+pub mod PidFilter
 pub mod PlainFrames
 pub mod Plans
 pub mod Rules
 pub mod SetAttr
 pub mod Shares
 pub mod Skip
+pub mod Swap16
 pub mod Tallies
+pub mod TsCheck
+pub mod TsSplit
+pub mod TsSync
 pub mod Value
 pub mod ValueTypes
 pub mod WellFormed
