@@ -1,12 +1,13 @@
 -- Bytes that are fed piece by piece, and their rest.
 use Rattle.std.proofs.Common.{◌≡◌, ℕ, ◌+◌, List, drop, Option, None, Ok, Err, ap, ◌∙◌}
 use Rattle.std.proofs.lemmas.List.{drop-drop}
-use Rattle.up_frame.specs.Judging.{IsJudged, IsRest, EndsAt}
+use Rattle.up_frame.specs.Judging.{IsJudged, IsAllJudged, IsRest, EndsAt}
 use Rattle.up_frame.specs.declared.judged.Judged.{Judged}
 use Rattle.up_model.proofs.FrameStreams.{first_is, none_is}
 use Rattle.up_model.specs.FrameFronts.{packet_at}
 use Rattle.up_model.specs.FrameStreams.{Stream, rest_of_frames}
 use Rattle.up_model.specs.declared.frame_layout.NotWhole.{NotWhole}
+use Rattle.up_model.specs.declared.frame_layout.NotWhole.TheVariants.{Unfinished}
 
 -- the frames before the place are whole, and behind it the bytes were judged so far
 pub record IsPassed (bytes : List ℕ) (place : ℕ) (judged : Option Judged) : Type 0 where
@@ -24,9 +25,11 @@ passed_more bytes place size judged ends so_far = record {
 
 -- no frame more is whole
 pub passed_all : (bytes : List ℕ) (place : ℕ) (refused : NotWhole) (before judged : Option Judged) → packet_at (drop place bytes) ≡ Err refused
-    → IsJudged judged (drop place bytes) → IsPassed bytes place before → IsRest bytes place refused judged
-passed_all bytes place refused before judged e on so_far = record {
+    → IsJudged judged (drop place bytes) → (refused ≡ Unfinished → IsAllJudged judged (drop place bytes)) → IsPassed bytes place before
+    → IsRest bytes place refused judged
+passed_all bytes place refused before judged e on all so_far = record {
   rest = so_far.rest ∙ ap (λ (s : Stream). s.rest) (none_is (drop place bytes) refused e);
   front = e;
   on = on;
+  all = all;
 }

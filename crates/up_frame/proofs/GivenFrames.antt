@@ -6,7 +6,7 @@ use Rattle.std.proofs.lemmas.List.Elements.{All-head, All-tail, All-append}
 use Rattle.std.proofs.lemmas.List.Concat.{flat_map-append}
 use Rattle.up_frame.proofs.GoingOn.{grows, from_place}
 use Rattle.up_frame.proofs.SetAttributes.{not_refused}
-use Rattle.up_frame.specs.Judging.{AreFramesBefore, IsJudged, IsRest}
+use Rattle.up_frame.specs.Judging.{AreFramesBefore, IsJudged, IsAllJudged, IsRest}
 use Rattle.up_frame.specs.Readers.{Keeps, frames_held, behind_frames, Waits, StandsFor, Awaits, IsNext}
 use Rattle.up_frame.specs.declared.frame_reader.FrameReader.{FrameReader}
 use Rattle.up_frame.specs.declared.judged.Judged.{Judged}
@@ -120,13 +120,41 @@ piece_added old new piece bytes given whole held first start judged fed stands =
       waiting = stands.waiting;
       waits = record { legal = stands.waits.legal; frames = frames ∙ stands.waits.frames };
       whole = whole_of_more bytes piece
-          ∙ ap (λ (r : List ℕ). whole_frames bytes ++ whole_frames (r ++ piece)) keeps.0
+          ∙ ap (λ (r : List ℕ). whole_frames bytes ++ whole_frames (r ++ piece)) keeps.rest
           ∙ ap (λ (r : List ℕ). whole_frames bytes ++ whole_frames r) (sym behind)
           ∙ ap (λ (w : Flow). w ++ whole_frames (behind_frames new)) stands.whole;
-      rest = rest_of_more bytes piece ∙ ap (λ (r : List ℕ). rest_of_frames (r ++ piece)) keeps.0 ∙ ap rest_of_frames (sym behind);
+      rest = rest_of_more bytes piece ∙ ap (λ (r : List ℕ). rest_of_frames (r ++ piece)) keeps.rest ∙ ap rest_of_frames (sym behind);
       on = subst (λ j. IsJudged j (behind_frames new)) (sym judged)
-          (subst (IsJudged old.judged) (sym behind) (grows old.judged (behind_frames old) piece keeps.1.1));
+          (subst (IsJudged old.judged) (sym behind) (grows old.judged (behind_frames old) piece keeps.on));
     }
+
+-- where all whole frames were given, none waits
+pub none_waits : (reader : FrameReader) (bytes : List ℕ) → StandsFor reader bytes (whole_frames bytes) → reader.given ≡ reader.start
+none_waits reader bytes stands =
+    let held = reader.held.items in
+    let counted : length (whole_frames bytes) ≡ length (whole_frames bytes) + length stands.waiting =
+    ap length stands.whole ∙ length-append (whole_frames bytes) stands.waiting in
+    let nothing : frames_held reader ≡ [] = stands.waits.frames ∙ none stands.waiting (omega (arith, counted)) in
+    let size : length (frames_held reader) ≡ reader.start - reader.given =
+    length-take-le (reader.start - reader.given) (drop reader.given held) (omega (arith, length-drop reader.given held, reader.ordered, reader.judged_within)) in
+    let empty : length (frames_held reader) ≡ 0 = ap length nothing in
+    omega (arith, size, empty, reader.ordered)
+  where
+    none : (waiting : Flow) → length waiting ≡ 0 → frames_of waiting ≡ []
+    none [] e = refl
+    none (packet ∷ more) e = absurd (omega (arith, e))
+
+-- what is held behind the frames is no more than the rest
+rest_held : (broken : Option ℕ) (judged : Option Judged) (held bytes : List ℕ) → Keeps broken judged held bytes → length held ≤ length (rest_of_frames bytes)
+rest_held None judged held bytes keeps = omega (arith, ap length keeps.rest)
+rest_held (Some place) judged held bytes keeps = omega (arith, ap length keeps.1)
+
+-- what is left of the bytes that were given, once those before the place are let go
+pub rest_alone : (reader : FrameReader) (bytes : List ℕ) (size : ℕ) → size ≡ length reader.held.items - reader.given
+    → StandsFor reader bytes (whole_frames bytes) → size ≤ length (rest_of_frames bytes)
+rest_alone reader bytes size is stands =
+    let few = rest_held reader.broken reader.judged (behind_frames reader) bytes stands.keeps in
+    omega (arith, is, few, none_waits reader bytes stands, length-drop reader.start reader.held.items)
 
 -- what is found in the bytes from the start on is found behind the frames
 pub found_behind : (old : FrameReader) (text bytes : List ℕ) (given : Flow) (size : ℕ) (found refused : NotWhole) (judged : Option Judged)
@@ -176,7 +204,13 @@ judged_open old new bytes given size whole held first start fed found awaits =
         waiting = awaits.waiting ++ whole_frames (behind_frames old);
         waits = frames_found old new bytes given size found.0 frames awaits;
         whole = awaits.whole ∙ append_assoc given awaits.waiting (whole_frames (behind_frames old));
-        keeps = subst (λ b. Keeps b new.judged (behind_frames new) bytes) (sym whole) (rest, (front, subst (IsJudged new.judged) (sym behind) is.on));
+        keeps = subst (λ b. Keeps b new.judged (behind_frames new) bytes) (sym whole)
+            (record {
+              rest = rest;
+              front = front;
+              on = subst (IsJudged new.judged) (sym behind) is.on;
+              all = subst (IsAllJudged new.judged) (sym behind) (is.all refl);
+            });
       },
       broken_rest bytes (behind_frames new) Unfinished rest front,
     )

@@ -1,12 +1,14 @@
 -- How far a frame was judged that isn't whole yet, and how it goes on from there.
-use Rattle.std.specs.Prelude.{◌≡◌, ℕ, List, [], ◌++◌, length, take, drop, All, Option, Some, None, Result, Ok, Err}
+use Rattle.std.specs.Prelude.{◌≡◌, ℕ, ◌<◌, List, [], ◌++◌, length, take, drop, All, Option, Some, None, Result, Ok, Err}
 use Rattle.std.specs.FinMap.{from_sorted}
 use Rattle.up_frame.specs.declared.judged.Judged.{Judged}
-use Rattle.up_model.specs.FrameFronts.{Front, ◌>>=◌, field, is_any, attributes_at, packet_at}
+use Rattle.up_frame.specs.declared.judged.TheConstants.{HEAD_SIZE}
+use Rattle.up_model.specs.FrameFronts.{Front, ◌>>=◌, field, is_any, attribute_at, attributes_at, packet_at}
 use Rattle.up_model.specs.FrameSpelling.{frames_of}
 use Rattle.up_model.specs.FrameStreams.{whole_frames, rest_of_frames}
 use Rattle.up_model.specs.Packet.{IsLegal}
 use Rattle.up_model.specs.declared.frame_layout.NotWhole.{NotWhole}
+use Rattle.up_model.specs.declared.frame_layout.NotWhole.TheVariants.{Unfinished}
 use Rattle.up_model.specs.declared.plain_packet.PlainPacket.{PlainPacket}
 use Rattle.up_model.specs.declared.value.Value.{Value}
 
@@ -42,6 +44,15 @@ abbrev pub IsJudged : Option Judged → List ℕ → Type 0
 IsJudged None bytes = Unit {0}
 IsJudged (Some judged) bytes = GoesOn judged bytes
 
+-- the next attribute behind what was judged
+abbrev pub next_at : Judged → List ℕ → Front (List ℕ × Value)
+next_at judged bytes = attribute_at (name_or_none judged.before) (drop judged.at bytes)
+
+-- no more can be judged: the head isn't whole, the next attribute isn't, or there is none
+abbrev pub IsAllJudged : Option Judged → List ℕ → Type 0
+IsAllJudged None bytes = length bytes < HEAD_SIZE
+IsAllJudged (Some judged) bytes = 0 < judged.left → next_at judged bytes ≡ Err Unfinished
+
 -- the frame goes on behind what is judged now, or the refusal is that of the bytes
 abbrev pub Leads : Result Judged NotWhole → List ℕ → Type 0
 Leads (Ok judged) bytes = GoesOn judged bytes
@@ -62,3 +73,4 @@ pub record IsRest (bytes : List ℕ) (place : ℕ) (refused : NotWhole) (judged 
   pub rest : rest_of_frames bytes ≡ drop place bytes
   pub front : packet_at (drop place bytes) ≡ Err refused
   pub on : IsJudged judged (drop place bytes)
+  pub all : refused ≡ Unfinished → IsAllJudged judged (drop place bytes)

@@ -1,8 +1,8 @@
 -- What a reader of frames that come in pieces was fed, and which packets it gave.
-use Rattle.std.specs.Prelude.{◌≡◌, ℕ, ◌-◌, ◌≤◌, List, [], ◌∷◌, ◌++◌, length, drop, slice_range, All, Option, Some, None, Result, Ok, Err}
+use Rattle.std.specs.Prelude.{◌≡◌, ℕ, ◌+◌, ◌-◌, ◌≤◌, List, [], ◌∷◌, ◌++◌, length, drop, slice_range, All, Option, Some, None, Result, Ok, Err}
 use Rattle.up_base.specs.Lists.{IsPrefix}
 use Rattle.up_base.specs.declared.refusal.NoMemory.{NoMemory}
-use Rattle.up_frame.specs.Judging.{IsJudged}
+use Rattle.up_frame.specs.Judging.{IsJudged, IsAllJudged}
 use Rattle.up_frame.specs.declared.frame_reader.FrameReader.{FrameReader}
 use Rattle.up_frame.specs.declared.judged.Judged.{Judged}
 use Rattle.up_frame.specs.declared.refusals.BadFrame.{BadFrame}
@@ -15,11 +15,16 @@ use Rattle.up_model.specs.Packet.{Flow, IsLegal}
 use Rattle.up_model.specs.declared.frame_layout.NotWhole.TheVariants.{Unfinished}
 use Rattle.up_model.specs.declared.plain_packet.PlainPacket.{PlainPacket}
 
--- nothing is broken, and the unfinished rest is held and judged so far; or a frame is broken at the place,
--- and nothing of it is held
+-- the rest is held, which is unfinished, and it was judged as far as its bytes are there
+pub record HoldsRest (judged : Option Judged) (held bytes : List ℕ) : Type 0 where
+  pub rest : rest_of_frames bytes ≡ held
+  pub front : packet_at held ≡ Err Unfinished
+  pub on : IsJudged judged held
+  pub all : IsAllJudged judged held
+
+-- nothing is broken, and the rest is held; or a frame is broken at the place, and nothing of it is held
 abbrev pub Keeps : Option ℕ → Option Judged → List ℕ → List ℕ → Type 0
-Keeps None judged held bytes =
-    (rest_of_frames bytes ≡ held) × ((packet_at held ≡ Err Unfinished) × IsJudged judged held)
+Keeps None judged held bytes = HoldsRest judged held bytes
 Keeps (Some place) judged held bytes = (broken_at bytes ≡ Some place) × (held ≡ [])
 
 -- the whole frames that are held and weren't given, and what stands behind them
@@ -111,6 +116,15 @@ bytes_fed reader = reader.fed
 -- of frames that were given no more bytes are held than of all others
 abbrev pub IsSparing : FrameReader → Type 0
 IsSparing reader = reader.given ≤ length reader.held.items - reader.given
+
+-- how many bytes are held
+abbrev pub bytes_held : FrameReader → ℕ
+bytes_held reader = length reader.held.items
+
+-- where all whole frames had been given, no more bytes are held than the rest behind them and the piece have
+abbrev pub HoldsAtMostRest : FrameReader → FrameReader → List ℕ → Type 0
+HoldsAtMostRest old new piece = (bytes : List ℕ) → StandsFor old bytes (whole_frames bytes)
+    → bytes_held new ≤ length (rest_of_frames bytes) + length piece
 
 -- the place where the bytes are cut, where they are
 abbrev pub TellsCut : Option ℕ → Result (Unit {0}) BadFrame → Type 0

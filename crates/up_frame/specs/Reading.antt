@@ -12,11 +12,6 @@ use Rattle.up_model.specs.declared.limits.TheConstants.{MAX_ATTRS, MAX_PACKET}
 use Rattle.up_model.specs.declared.plain_packet.PlainPacket.{PlainPacket}
 use Rattle.up_model.specs.declared.value.Value.{Value}
 
--- the answer, seen by view, is what the front is
-abbrev pub Finds : {X Y : Type 0} → (X → Y) → Result X NotWhole → Result Y NotWhole → Type 0
-Finds view (Ok x) front = front ≡ Ok (view x)
-Finds view (Err refused) front = front ≡ Err refused
-
 -- the answer tells what is behind the front, or why nothing whole stands there
 abbrev pub Ends : {X A : Type 0} → (X → List ℕ) → Result X NotWhole → Front A → Type 0
 Ends {A = A} rest (Ok x) front = (whole : A) × (front ≡ Ok (whole, rest x))

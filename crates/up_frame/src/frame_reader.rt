@@ -12,9 +12,10 @@ use up_base::NoMemory;
 use up_model::NotWhole;
 use up_shape::LocalPacket;
 
-/// Reads packets from frames that come in any pieces. A field is judged once all its bytes are there, and an attribute
-/// that was judged whole isn't judged again. Where packets are taken until none is left after each piece, only the frame
-/// that isn't whole yet is held beside that piece. Of a broken frame nothing is held.
+/// Reads packets from frames that come in any pieces. A field is judged once all its bytes are there; an attribute that
+/// was judged whole isn't judged again, which no clause tells, since none tells the work of a call. Where packets are
+/// taken until none is left after each piece, only the frame that isn't whole yet is held beside that piece. Of a broken
+/// frame nothing is held.
 #[derive(Debug, Drop)]
 pub struct FrameReader {
     /// Bytes that were given as packets, whole frames that wait from the place `given` on, and what isn't whole from the place
@@ -36,11 +37,13 @@ impl FrameReader {
       Awaits,
       Feeds,
       Gives,
+      HoldsAtMostRest,
       IsSparing,
       Judges,
       StandsFor,
       TellsCut,
       bytes_fed,
+      bytes_held,
       plain_answer,
     };
     ghost use Rattle.up_model.specs.FrameStreams.{broken_at, cut_at};
@@ -76,6 +79,8 @@ impl FrameReader {
         ensures stands { (bytes : List ℕ) (given : Flow) → StandsFor self.old bytes given
             → StandsFor self.new bytes given }
         ensures sparing { IsSparing self.new }
+        ensures held { HoldsAtMostRest self.old self.new [] }
+        ensures fewer { bytes_held self.new ≤ bytes_held self.old }
         ensures count { bytes_fed self.new ≡ bytes_fed self.old }
         ensures broken { self.new.broken ≡ self.old.broken }
     {
@@ -97,6 +102,7 @@ impl FrameReader {
         ensures unchanged { (bytes : List ℕ) (given : Flow) → StandsFor self.old bytes given
             → OnErr result (StandsFor self.new bytes given × (broken_at bytes ≡ None)) }
         ensures sparing { IsSparing self.old → IsSparing self.new }
+        ensures held { bytes_held self.new ≤ bytes_held self.old + length piece.now }
         ensures count { bytes_fed self.new ≤ bytes_fed self.old + length piece.now }
         ensures broken { self.new.broken ≡ None }
     {
@@ -110,6 +116,7 @@ impl FrameReader {
         requires whole { self.old.broken ≡ None }
         ensures judged { Judges self.old self.new result }
         ensures sparing { result ≡ None → IsSparing self.old → IsSparing self.new }
+        ensures fewer { bytes_held self.new ≤ bytes_held self.old }
         ensures count { bytes_fed self.new ≡ bytes_fed self.old }
     {
         let mut judged = self.judged;
@@ -134,6 +141,7 @@ impl FrameReader {
         requires { bytes_fed self.old + length piece.now < 2 ^ 64 }
         ensures fed { Feeds self.old self.new piece.now result }
         ensures sparing { IsSparing self.new }
+        ensures held { HoldsAtMostRest self.old self.new piece.now }
         ensures count { bytes_fed self.new ≤ bytes_fed self.old + length piece.now }
     {
         self.compact();
@@ -165,6 +173,7 @@ impl FrameReader {
         ensures store { Stays (P.Store.state s.old) (P.Store.state s.new) }
         ensures untouched { IfOk result
             (λ r. r ≡ None → P.Store.state s.new ≡ P.Store.state s.old) }
+        ensures held { bytes_held self.new ≡ bytes_held self.old }
         ensures count { bytes_fed self.new ≡ bytes_fed self.old }
     {
         let (parts, rest) = match frame_parts(&self.held[self.given..self.start]) {
@@ -192,7 +201,7 @@ impl FrameReader {
         Some(self.fed - left as u64)
     }
 
-    /// Ends the reading. What isn't whole then is a broken or an unfinished frame.
+    /// Ends the reading. What isn't whole then is a broken or an unfinished frame; whole frames that wait are let go.
     pub fn finish(self) -> Result<(), BadFrame>
         ensures cut { (bytes : List ℕ) (given : Flow) → StandsFor self bytes given
             → TellsCut (cut_at bytes) result }

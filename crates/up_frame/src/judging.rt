@@ -1,18 +1,22 @@
 //! Frames that are judged as far as their bytes are there.
-ghost use Rattle.std.specs.Prelude.{◌≡◌, ◌+◌, ◌<◌, ◌≤◌, length, IfOk, IfSome, None, Err};
+ghost use Rattle.std.specs.Prelude.{◌≡◌, ◌+◌, ◌<◌, ◌≤◌, length, IfOk, IfErr, IfSome, None, Err};
 ghost use Rattle.up_frame.specs.Judging.{
   AreFramesBefore,
   EndsAt,
   GoesOn,
+  IsAllJudged,
   IsJudged,
   IsRest,
   Leads,
   judged_place,
   name_or_none,
+  next_at,
 };
+ghost use Rattle.up_frame.specs.declared.judged.TheConstants.{HEAD_SIZE};
 ghost use Rattle.up_model.specs.FrameFronts.{packet_at};
+ghost use Rattle.up_model.specs.declared.frame_layout.NotWhole.TheVariants.{Unfinished};
 
-use crate::judged::Judged;
+use crate::judged::{HEAD_SIZE, Judged};
 use crate::reading::{attribute, behind_byte, count_at, size_at};
 use up_base::AttrName;
 use up_model::{MARK, NotWhole, VERSION};
@@ -22,13 +26,14 @@ use up_model::{MARK, NotWhole, VERSION};
 fn head(bytes: &[u8]) -> Result<Judged, NotWhole>
     ensures within { IfOk result (λ judged. judged.at ≤ length bytes.now) }
     ensures front { Leads result bytes.now }
+    ensures short { IfErr result (λ refused. refused ≡ Unfinished → length bytes.now < HEAD_SIZE) }
 {
     let rest = behind_byte(bytes, MARK)?;
     let rest = behind_byte(rest, VERSION)?;
     let (count, rest) = count_at(rest)?;
     let (size, _) = size_at(rest)?;
     Ok(Judged {
-        at: 8,
+        at: HEAD_SIZE,
         left: count,
         size,
         before: None,
@@ -52,6 +57,7 @@ fn next_attribute(bytes: &[u8], judged: Judged) -> Result<Judged, NotWhole>
     ensures within { IfOk result (λ next. next.at ≤ length bytes.now) }
     ensures fewer { IfOk result (λ next. next.left + 1 ≡ judged.left) }
     ensures front { GoesOn judged bytes.now → Leads result bytes.now }
+    ensures refused { IfErr result (λ refused. next_at judged bytes.now ≡ Err refused) }
 {
     let (name, _, rest) = attribute(&bytes[judged.at..], last_name(&judged.before))?;
     Ok(Judged {
@@ -70,6 +76,7 @@ fn attributes(bytes: &[u8], judged: &mut Judged) -> Option<NotWhole>
     ensures judged { GoesOn judged.old bytes.now → GoesOn judged.new bytes.now }
     ensures front { GoesOn judged.old bytes.now
         → IfSome result (λ refused. packet_at bytes.now ≡ Err refused) }
+    ensures refused { IfSome result (λ refused. next_at judged.new bytes.now ≡ Err refused) }
 {
     while judged.left > 0 {
         match next_attribute(bytes, *judged) {
@@ -100,6 +107,7 @@ fn frame_end(bytes: &[u8], judged: &mut Option<Judged>) -> Result<usize, NotWhol
     ensures within { IfOk result (λ end. (0 < end) × (end ≤ length bytes.now)) }
     ensures judged { IsJudged judged.old bytes.now → IsJudged judged.new bytes.now }
     ensures front { IsJudged judged.old bytes.now → EndsAt result bytes.now }
+    ensures no_more { result ≡ Err Unfinished → IsAllJudged judged.new bytes.now }
 {
     let mut now = match *judged {
         Some(judged) => judged,

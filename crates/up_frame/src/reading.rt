@@ -3,7 +3,7 @@ ghost use Rattle.std.specs.Prelude.{◌≡◌, ◌==◌, ◌≤◌, nat_le, true
 ghost use Rattle.std.specs.Str.{is_utf8};
 ghost use Rattle.up_base.specs.Name.{is_name, is_within};
 ghost use Rattle.up_base.specs.declared.name_text.TheConstants.{NAME_SIZE};
-ghost use Rattle.up_frame.specs.Reading.{BeginsWithFrame, Ends, Finds, Parted};
+ghost use Rattle.up_frame.specs.Reading.{BeginsWithFrame, Ends, Parted};
 ghost use Rattle.up_model.specs.FrameFronts.{
   field,
   number_at,
@@ -19,6 +19,7 @@ ghost use Rattle.up_model.specs.FrameFronts.{
   content_at,
   packet_at,
 };
+ghost use Rattle.up_model.specs.PlainFrames.{Finds};
 ghost use Rattle.up_model.specs.Value.{lent};
 ghost use Rattle.up_model.specs.ValueTypes.{value_of};
 ghost use Rattle.up_model.specs.declared.limits.TheConstants.{MAX_ATTRS, MAX_PACKET};
@@ -28,7 +29,7 @@ use up_base::{AttrName, read_u16, read_u32, read_u64};
 use up_model::{MARK, MAX_ATTRS, MAX_PACKET, MAX_VALUE, NotWhole, VERSION, ValueType, ValueView};
 
 /// A field of so many bytes, whatever they are, and what is behind it.
-fn cut(bytes: &[u8], size: usize) -> Result<(&[u8], &[u8]), NotWhole>
+fn field(bytes: &[u8], size: usize) -> Result<(&[u8], &[u8]), NotWhole>
     ensures { Finds (λ x. (x.0.now, x.1.now)) result (field size is_any bytes.now) }
 {
     if bytes.len() < size {
@@ -202,10 +203,7 @@ fn name_at<'a>(
         (field size (is_name_behind before.now) bytes.now) }
     ensures name { IfOk result (λ x. is_name x.0.now ≡ true) }
 {
-    if bytes.len() < size {
-        return Err(NotWhole::Unfinished);
-    }
-    let (name, rest) = bytes.split_at(size);
+    let (name, rest) = field(bytes, size)?;
     if !is_behind(before, name) {
         return Err(NotWhole::Broken);
     }
@@ -222,10 +220,7 @@ fn content_of(
     ensures { Finds (λ x. (lent x.0, x.1.now)) result
         (as_value type_ (field size (is_value_of type_) bytes.now)) }
 {
-    if bytes.len() < size {
-        return Err(NotWhole::Unfinished);
-    }
-    let (content, rest) = bytes.split_at(size);
+    let (content, rest) = field(bytes, size)?;
     match view_of(content, type_) {
         Some(value) => Ok((value, rest)),
         None => Err(NotWhole::Broken),
@@ -280,7 +275,7 @@ fn content(bytes: &[u8], count: u16, size: u32) -> Result<(FrameParts<'_>, &[u8]
     ensures { Parted result (content_at count size bytes.now) }
 {
     let behind = behind_attributes(bytes, count)?;
-    let (content, rest) = cut(behind, size as usize)?;
+    let (content, rest) = field(behind, size as usize)?;
     let parts = FrameParts {
         count,
         attrs: bytes,

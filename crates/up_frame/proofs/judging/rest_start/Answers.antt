@@ -3,7 +3,7 @@ use Rattle.std.proofs.lemmas.List.{length-drop}
 use Rattle.up_frame.proofs.FedBytes.{passed_more, passed_all}
 use Rattle.up_frame.proofs.FoundFrames.{are_bytes}
 use Rattle.up_frame.proofs.GoingOn.{from_place}
-use Rattle.up_frame.specs.Judging.{IsJudged, EndsAt}
+use Rattle.up_frame.specs.Judging.{IsJudged, IsAllJudged, EndsAt}
 use Rattle.up_model.proofs.FrameStreams.{whole_front}
 use Rattle.up_model.specs.FrameFronts.{packet_at}
 use Rattle.up_frame.proofs.judging.rest_start.Goals as goal
@@ -29,7 +29,8 @@ returns-in-Err-clause-rest c first =
     let judged = subst (IsJudged c.frames.judged) (sym place) so_far.on in
     passed_all bytes c.frames.start c.in-Err.refused c.frames.judged c.frame_end.new.judged
     (subst (λ rest. packet_at rest ≡ Err c.in-Err.refused) place (c.in-Err.ensures.front judged))
-    (subst (IsJudged c.frame_end.new.judged) place (c.in-Err.ensures.judged judged)) so_far
+    (subst (IsJudged c.frame_end.new.judged) place (c.in-Err.ensures.judged judged))
+    (λ unfinished. subst (IsAllJudged c.frame_end.new.judged) place (c.in-Err.ensures.no_more (ap Err unfinished))) so_far
 
 pub returns-in-Err-clause-frames : goal.returns-in-Err-clause-frames
 returns-in-Err-clause-frames c first =

@@ -14,3 +14,6 @@ pub returns-in-Some-judge-clause-fed : goal.returns-in-Some-judge-clause-fed
 returns-in-Some-judge-clause-fed c bytes given stands =
     let judged = c.in-Some-judge.ensures.judged (bytes ++ c.args.piece.now) given (c.in-Ok.ensures.added bytes given (c.compact.ensures.stands bytes given stands)) in
     (c.compact-in-Some-judge.ensures.stands (bytes ++ c.args.piece.now) given judged.0, judged.1 ∙ ap Some (omega arith))
+
+pub returns-in-Err-clause-fed : goal.returns-in-Err-clause-fed
+returns-in-Err-clause-fed c bytes given stands = c.in-Err.ensures.unchanged bytes given (c.compact.ensures.stands bytes given stands)

@@ -1,4 +1,4 @@
-use Rattle.std.proofs.Common.{[], refl, sym, ap, ◌∙◌}
+use Rattle.std.proofs.Common.{[], length, refl, sym, ap, ◌∙◌, arith}
 use Rattle.std.proofs.lemmas.List.Elements.{All-nil}
 use Rattle.up_model.proofs.FrameStreams.{nothing_at_end}
 use Rattle.up_model.specs.FrameFronts.{packet_at}
@@ -11,5 +11,10 @@ returns-clause-stands c = record {
   waiting = [];
   waits = record { legal = All-nil IsLegal; frames = refl };
   whole = refl;
-  keeps = (sym c.new.ensures.items, (ap packet_at c.new.ensures.items ∙ nothing_at_end, tt));
+  keeps = record {
+    rest = sym c.new.ensures.items;
+    front = ap packet_at c.new.ensures.items ∙ nothing_at_end;
+    on = tt;
+    all = omega (arith, ap length c.new.ensures.items);
+  };
 }
