@@ -13,7 +13,7 @@ use Rattle.up_base.specs.Name.{is_name, is_within}
 use Rattle.up_graph.proofs.Found.{mapped, weaker, both_by, both_too, anything, given_too, made_too, then_too, numbered_too}
 use Rattle.up_graph.proofs.Rows.{each_kind}
 use Rattle.up_graph.specs.Answers.{Answers, Checked}
-use Rattle.up_graph.specs.AttrValue.{attr_value, is_value_text, value_or_void}
+use Rattle.up_graph.specs.AttrValue.{attr_value, is_legal_text, value_or_void}
 use Rattle.up_graph.specs.Faults.{names_differ, one_input_each, faultless, told, graph_from}
 use Rattle.up_graph.specs.Field.{Field, field_map, both, given, or_wrong}
 use Rattle.up_graph.specs.Form.{block, form, form_with, in_blocks, sink_form, source_form}
@@ -21,7 +21,7 @@ use Rattle.up_graph.specs.Graph.{graph_in}
 use Rattle.up_graph.specs.KindRows.{KindRow, a_kind, attr, by, bytes, greatest_low, high, limit, low, path, pipe_name, own_of, source_row, sink_row, skip_row, setattr_row, delattr_row, match_attr_row, delay_row}
 use Rattle.up_graph.specs.Pipes.{pipe_from, pipe_with, pipe_by, pipe_in, pipes_from, taken_by, input_of}
 use Rattle.up_graph.specs.Top.{array_in, array_of, counted, is_table, numbered, tables_in, tables_of, version_of}
-use Rattle.up_graph.specs.Values.{a_name, a_number, integer_in, number_in, number_or, text_that, values}
+use Rattle.up_graph.specs.Values.{a_name, a_number, number_in, number_or, shift_in, text_that, values}
 use Rattle.up_graph.specs.declared.form.Form.{Form}
 use Rattle.up_graph.specs.declared.form.Form.TheVariants.{Raw, Framed}
 use Rattle.up_graph.specs.declared.graph_refused.GraphRefused.{GraphRefused}
@@ -142,7 +142,7 @@ value_legal (Some (integer number)) =
     made_too Unsigned (IsBetween 0 (2 ^ 64 - 1)) IsLegalValue (number_in 0 (2 ^ 64 - 1) (integer number)) (number_right 0 (2 ^ 64 - 1) (integer number))
     (λ number within. omega (arith, within.1))
 value_legal (Some (string text)) =
-    made_too Words (λ text. is_value_text text ≡ true) IsLegalValue (text_that is_value_text (Some (string text))) (text_right is_value_text (Some (string text)))
+    made_too Words (λ text. is_legal_text text ≡ true) IsLegalValue (text_that is_legal_text (Some (string text))) (text_right is_legal_text (Some (string text)))
     (λ text is. let parts = and_parts (is_value_of types.Words text) (is_size_of types.Words (length text)) is in (parts.0, grind (arith, nat_tests, parts.1)))
 value_legal (Some value) = tt
 
@@ -170,7 +170,7 @@ match_attr_right fields =
     (weaker (both (given attr fields) bounds) (λ found. Unit {0} × AreBounds found.1.0 found.1.1) _ (λ found right. (right.1, refl))
     (both_too (λ name. Unit {0}) (λ bounds. AreBounds bounds.0 bounds.1) (given attr fields) bounds (anything (given attr fields)) (bounds_right fields)))
 
-shift_right : (found : Option Data) → IfSome (integer_in least_shift greatest_shift found) IsShift
+shift_right : (found : Option Data) → IfSome (shift_in found) IsShift
 shift_right None = tt
 shift_right (Some (integer number)) =
     elim (cases_Bool (int_le least_shift number && int_le number greatest_shift)) [
@@ -185,7 +185,7 @@ shift_right (Some value) = tt
 delay_right : IsRight delay_row
 delay_right fields =
     mapped _ (given by fields) _
-    (weaker (given by fields) IsShift _ (λ by right. (right, refl)) (given_too by.name IsShift (integer_in least_shift greatest_shift (get_member by.name fields)) (shift_right (get_member by.name fields))))
+    (weaker (given by fields) IsShift _ (λ by right. (right, refl)) (given_too by.name IsShift (shift_in (get_member by.name fields)) (shift_right (get_member by.name fields))))
 
 taken_right : (is : Bool) (tables : List Data) (fields : Members) → IfOk (taken_by is tables fields) (λ input. is_some input ≡ not is)
 taken_right true tables fields = refl

@@ -8,15 +8,15 @@ use Rattle.up_model.specs.declared.value.Value.{Value}
 use Rattle.up_model.specs.declared.value.Value.TheVariants.{Void, Flag, Unsigned, Words}
 use Rattle.up_model.specs.declared.value_type.ValueType.TheVariants as types
 
--- bytes that a value which is a text may be, in the length that it may have
-abbrev pub is_value_text : List ℕ → Bool
-is_value_text text = is_value_of types.Words text && is_size_of types.Words (length text)
+-- the text is a legal value: its bytes are those of one, and not too many
+abbrev pub is_legal_text : List ℕ → Bool
+is_legal_text text = is_value_of types.Words text && is_size_of types.Words (length text)
 
 -- a boolean is a flag, an integer from 0 a number, a text a text
 abbrev pub value_in : Data → Option Value
 value_in (boolean flag) = Some (Flag flag)
 value_in (integer number) = option_map Unsigned (number_in 0 (2 ^ 64 - 1) (integer number))
-value_in (string text) = option_map Words (text_that is_value_text (Some (string text)))
+value_in (string text) = option_map Words (text_that is_legal_text (Some (string text)))
 value_in value = None
 
 -- a missing value is void

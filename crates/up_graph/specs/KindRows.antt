@@ -6,8 +6,7 @@ use Rattle.toml.specs.Data.{Data, Members, as_str}
 use Rattle.up_graph.specs.AttrValue.{attr_value}
 use Rattle.up_graph.specs.Field.{Field, field_map, both, Rule, given, known_alone}
 use Rattle.up_graph.specs.Form.{block, form, sink_form, source_form}
-use Rattle.up_graph.specs.Values.{a_name, a_path, a_number, an_input, an_integer}
-use Rattle.up_model.specs.Delay.{least_shift, greatest_shift}
+use Rattle.up_graph.specs.Values.{a_name, a_path, a_number, a_shift, an_input}
 use Rattle.up_model.specs.declared.kind.Kind.{Kind}
 use Rattle.up_model.specs.declared.kind.Kind.TheVariants.{Source, Sink, Idem, Null, Dup, Skip, SetAttr, DelAttr, MatchAttr, Delay}
 use Rattle.up_model.specs.declared.limits.TheConstants.{MAX_LIMIT, MAX_PACKET}
@@ -101,7 +100,7 @@ match_attr_row = record {
 }
 
 abbrev pub by : Rule ℤ
-by = an_integer (codes "by") least_shift greatest_shift
+by = a_shift (codes "by")
 
 abbrev pub delay_row : KindRow
 delay_row = record {

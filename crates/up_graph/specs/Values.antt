@@ -6,6 +6,7 @@ use Rattle.std.specs.Str.{is_utf8}
 use Rattle.toml.specs.Data.{Data, string, integer, array, Items, no_items, item, as_str}
 use Rattle.up_base.specs.Name.{is_name, is_within}
 use Rattle.up_graph.specs.Field.{Rule}
+use Rattle.up_model.specs.Delay.{least_shift, greatest_shift}
 use Rattle.up_model.specs.Ends.{is_path}
 
 -- the values of an array
@@ -42,14 +43,14 @@ number_or missing low high (Some value) = number_in low high value
 abbrev pub a_number : List ℕ → ℕ → ℕ → Option ℕ → Rule ℕ
 a_number key low high missing = record { name = key; value = number_or missing low high }
 
--- an integer from low to high, below 0 or not
-abbrev pub integer_in : ℤ → ℤ → Option Data → Option ℤ
-integer_in low high (Some (integer number)) =
-    if int_le low number && int_le number high then Some number else None
-integer_in low high _ = None
+-- an integer by which dates can be moved
+abbrev pub shift_in : Option Data → Option ℤ
+shift_in (Some (integer by)) =
+    if int_le least_shift by && int_le by greatest_shift then Some by else None
+shift_in _ = None
 
-abbrev pub an_integer : List ℕ → ℤ → ℤ → Rule ℤ
-an_integer key low high = record { name = key; value = integer_in low high }
+abbrev pub a_shift : List ℕ → Rule ℤ
+a_shift key = record { name = key; value = shift_in }
 
 -- what an array of texts names: one pipe, or two and more, for which None stands
 abbrev pub named_in : List Data → Option (Option (List ℕ))

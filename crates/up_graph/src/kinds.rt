@@ -8,7 +8,7 @@ ghost use Rattle.up_graph.specs.KindSeen.{kind_seen, row_seen};
 use crate::attr_value::attr_value_at;
 use crate::field::{both, known_alone};
 use crate::form::{form_at, source_form_at};
-use crate::values::{integer_at, name_at, number_at, path_at, short_number_at};
+use crate::values::{name_at, number_at, path_at, shift_at, short_number_at};
 use std::alloc::Global;
 use toml::Table;
 use up_base::{NoMemory, Text};
@@ -121,10 +121,7 @@ fn match_attr_at<'a>(table: &'a Table) -> Result<Kind, &'a str>
 fn delay_at<'a>(table: &'a Table) -> Result<Kind, &'a str>
     ensures { seen (λ kind. kind) result ≡ own_of delay_row (table_view table.entry.now) }
 {
-    match both(
-        known_alone(table, &TAKING, &["by"]),
-        integer_at(table, "by", i64::MIN, i64::MAX),
-    ) {
+    match both(known_alone(table, &TAKING, &["by"]), shift_at(table, "by")) {
         Ok((_, by)) => Ok(Kind::Delay { by }),
         Err(field) => Err(field),
     }

@@ -309,6 +309,33 @@ fn names_and_paths_have_a_greatest_length(rt: HostRuntime) -> Result<(), Fail> {
 }
 
 #[test]
+fn ends_of_frames_have_paths_of_at_most_4096_bytes(rt: HostRuntime) -> Result<(), Fail> {
+    let alloc = rt.alloc();
+    for (source_len, sink_len, place, refused) in [
+        (4096, 4095, 0, ""),
+        (4095, 4096, 1, ""),
+        (4097, 4096, 0, "1: path"),
+        (4096, 4097, 1, "2: path"),
+    ] {
+        let source = repeated(&rt, "i", source_len)?;
+        let sink = repeated(&rt, "o", sink_len)?;
+        let text = format!(in alloc;
+            "version = 1\npipe = [\
+            {{name = 'a', kind = 'source', form = 'framed', path = '{source}'}}, \
+            {{name = 'b', kind = 'sink', form = 'framed', path = '{sink}', input = 'a'}}]"
+        )?;
+        let wanted = match (refused, place) {
+            ("", 0) => format!(in alloc; "source {source} framed 1099511627776")?,
+            ("", _) => format!(in alloc; "sink {sink} framed < 0")?,
+            _ => format!(in alloc; "{refused}")?,
+        };
+        let told = answer(&rt, text.as_bytes(), place)?;
+        assert_eq!(rt; told.as_str(), wanted.as_str());
+    }
+    Ok(())
+}
+
+#[test]
 fn the_text_of_an_attribute_has_at_most_4096_bytes(rt: HostRuntime) -> Result<(), Fail> {
     let alloc = rt.alloc();
     for (letter, count, fits) in [

@@ -4,7 +4,7 @@ ghost use Rattle.std.specs.List.{list_all, list_any};
 ghost use Rattle.std.specs.Str.{is_utf8};
 ghost use Rattle.toml.specs.View.{array_view, table_view, view};
 ghost use Rattle.up_graph.specs.Field.{given, seen};
-ghost use Rattle.up_graph.specs.Values.{a_name, a_number, a_path, an_input, an_integer, is_text, named_in, number_in, values};
+ghost use Rattle.up_graph.specs.Values.{a_name, a_number, a_path, a_shift, an_input, is_text, named_in, number_in, values};
 ghost use Rattle.up_model.specs.Ends.{is_path};
 
 use crate::field::value_at;
@@ -111,13 +111,12 @@ pub fn short_number_at<'a>(
     }
 }
 
-/// The integer at a key, from `low` to `high`, below 0 or not.
-pub fn integer_at<'a>(table: &Table, key: &'a str, low: i64, high: i64) -> Result<i64, &'a str>
-    ensures { seen (λ number. number) result
-        ≡ given (an_integer key.entry.now low high) (table_view table.now) }
+/// The integer at a key, of which each of 64 bits moves dates.
+pub fn shift_at<'a>(table: &Table, key: &'a str) -> Result<i64, &'a str>
+    ensures { seen (λ by. by) result ≡ given (a_shift key.entry.now) (table_view table.now) }
 {
     match value_at(table, key) {
-        Some(Value::Integer(number)) if low <= *number && *number <= high => Ok(*number),
+        Some(Value::Integer(by)) => Ok(*by),
         _ => Err(key),
     }
 }

@@ -2,7 +2,7 @@
 // refusal with its numbers.
 
 /// The fields of pipe 1, before a sink that takes from `a`: what is read of it.
-pub static SOURCE_FORMS: [(&str, &str); 46] = [
+pub static SOURCE_FORMS: [(&str, &str); 53] = [
     (
         "name='a',kind='source',path='i',form='raw'",
         "source i 4096 1099511627776",
@@ -22,6 +22,10 @@ pub static SOURCE_FORMS: [(&str, &str); 46] = [
     (
         "name='a',kind='source',path='i',form='framed',limit=0",
         "source i framed 0",
+    ),
+    (
+        "name='a',kind='source',path='i',form='framed',limit=1099511627776",
+        "source i framed 1099511627776",
     ),
     (
         "name='a',kind='source',path='i','form'=\"\\u0066ramed\"",
@@ -113,8 +117,24 @@ pub static SOURCE_FORMS: [(&str, &str); 46] = [
         "1: limit",
     ),
     (
+        "name='a',kind='source',path='i',form='framed',limit=1099511627777",
+        "1: limit",
+    ),
+    (
+        "name='a',kind='source',path='i',form='framed',limit='5'",
+        "1: limit",
+    ),
+    (
         "name='a',kind='source',path='i',form='framed',limit=1099511627777,zz=1",
         "1: limit",
+    ),
+    (
+        "name='a',kind='source',path='i',form='x',limit=-1",
+        "1: form",
+    ),
+    (
+        "name='a',kind='source',path='i',form='x',input='a'",
+        "1: form",
     ),
     (
         "name='a',kind='source',path='i',form='x',block=4096,limit=-1",
@@ -131,6 +151,8 @@ pub static SOURCE_FORMS: [(&str, &str); 46] = [
     ("name='a',kind='source',path='',form='framed'", "1: path"),
     ("name='a',kind='source',form='framed',limit=-1", "1: limit"),
     ("name='a',kind='source',path='',form='x'", "1: form"),
+    ("name='',kind='source',path='i',form='x'", "1: form"),
+    ("name='',kind='source',path='i',form='framed'", "1: name"),
     (
         "name='',kind='source',path='',form='framed',block=1",
         "1: block",
@@ -139,7 +161,7 @@ pub static SOURCE_FORMS: [(&str, &str); 46] = [
 ];
 
 /// The fields of pipe 2, behind a source `a`: what is read of it.
-pub static SINK_FORMS: [(&str, &str); 21] = [
+pub static SINK_FORMS: [(&str, &str); 29] = [
     (
         "name='b',kind='sink',input='a',path='p',form='raw'",
         "sink p < 0",
@@ -196,8 +218,34 @@ pub static SINK_FORMS: [(&str, &str); 21] = [
     ),
     ("name='b',kind='sink',path='p',form='framed'", "2: input"),
     ("name='b',kind='sink',path='p',form='x'", "2: form"),
+    (
+        "name='b',kind='sink',input=[],path='p',form='framed'",
+        "2: input",
+    ),
+    ("name='b',kind='sink',input=[],path='p',form='x'", "2: form"),
+    (
+        "name='b',kind='sink',input='x',path='p',form='framed'",
+        "UnknownInput 2",
+    ),
+    (
+        "name='b',kind='sink',input='a',path='p',Form='x'",
+        "2: Form",
+    ),
+    (
+        "name='b',kind='sink',input='a',path='p',form='x',align=1",
+        "2: align",
+    ),
+    (
+        "name='b',kind='sink',input='a',path='p',form='x',zz=1",
+        "2: form",
+    ),
     ("name='b',kind='sink',input='a',form='framed'", "2: path"),
     ("name='b',kind='sink',input='a',form='x'", "2: form"),
+    (
+        "name='b',kind='sink',input='a',path='',form='framed'",
+        "2: path",
+    ),
+    ("name='',kind='sink',input='a',path='',form='x'", "2: form"),
     ("kind='sink',input='a',path='',form='framed'", "2: name"),
     ("name='b',kind='idem',input='a',form='framed'", "2: form"),
 ];
