@@ -27,8 +27,8 @@ use Rattle.up_model.specs.declared.plain_packet.PlainPacket.{PlainPacket}
 use Rattle.up_outside.specs.Counts.{CountsOnce}
 use Rattle.up_outside.specs.States.{SourceState}
 use Rattle.up_outside.specs.Told.{Then}
-use Rattle.up_strand.specs.Frames.{IsEndOfFrames, Unframes, frames_within, is_frame_fault, shows_where}
-use Rattle.up_strand.specs.Reads.{WereRead}
+use Rattle.up_strand.specs.Frames.{FramesStand, framed_source, frame_read_failed, shows_where}
+use Rattle.up_strand.specs.Reads.{EndsBy, WereRead}
 use Rattle.up_strand.specs.declared.frame_source.FrameSource.{FrameSource}
 use Rattle.up_strand.specs.declared.frame_source.NextFrame.TheVariants.{Ended}
 
@@ -85,7 +85,7 @@ same_past limit left count size all sum long = elim (leb_tells (suc (min count l
       ]
 ]
 
-module _ {S : Type 0} (old : FrameSource S) (read : List ℕ) (put : Flow) (stood : Unframes old read put) (unshown : old.shown ≡ None) where
+module _ {S : Type 0} (old : FrameSource S) (read : List ℕ) (put : Flow) (stood : FramesStand old read put) (unshown : old.shown ≡ None) where
   few_read : length read ≤ old.limit
   few_read = let sum = stood.rest unshown in omega (arith, sum)
 
@@ -112,7 +112,7 @@ module _ {S : Type 0} (old : FrameSource S) (read : List ℕ) (put : Flow) (stoo
     pub took_in : (new : FrameSource S) → new.limit ≡ old.limit → new.left ≡ old.left - min count old.left
         → IsReaderOf new.reader (take old.limit read ++ take (min count old.left) room) put
         → new.shown ≡ shows_where (nat_lt (min count old.left) count) old.limit (take old.limit read ++ take (min count old.left) room)
-        → Unframes new (read ++ taken) put
+        → FramesStand new (read ++ taken) put
     took_in new limits lefts reads shows =
         let sum = stood.rest unshown in
         let all : length (read ++ taken) ≡ length read + count = omega (arith, length-append read taken, long) in
@@ -121,7 +121,7 @@ module _ {S : Type 0} (old : FrameSource S) (read : List ℕ) (put : Flow) (stoo
         shows ∙ ap (λ (b : Bool). shows_where b old.limit (take old.limit read ++ take (min count old.left) room)) past
         ∙ ap (λ (bytes : List ℕ). option_or (option_map BadFrame (broken_at bytes)) (too_long old.limit (read ++ taken))) (sym within_limit) in
         record {
-          unframed = subst (λ (limit : ℕ). IsReaderOf new.reader (take limit (read ++ taken)) put) (sym limits)
+          reader = subst (λ (limit : ℕ). IsReaderOf new.reader (take limit (read ++ taken)) put) (sym limits)
               (subst (λ (bytes : List ℕ). IsReaderOf new.reader bytes put) (sym within_limit) reads);
           known = known ∙ ap (λ (limit : ℕ). shown_by Framed limit (read ++ taken)) (sym limits);
           rest = λ none.
@@ -132,24 +132,24 @@ module _ {S : Type 0} (old : FrameSource S) (read : List ℕ) (put : Flow) (stoo
         }
 
 -- at the end of the bytes
-end_no_fault_by : (P : Type 0) (cut : Option ℕ) → is_frame_fault {P = P} (Ended (option_map_or BadFrame cut Whole)) ≡ false
+end_no_fault_by : (P : Type 0) (cut : Option ℕ) → frame_read_failed {P = P} (Ended (option_map_or BadFrame cut Whole)) ≡ false
 end_no_fault_by P None = refl
 end_no_fault_by P (Some at) = refl
 
-pub end_no_fault : (P : Type 0) (bytes : List ℕ) (outcome : Outcome) → outcome ≡ outcome_at_end Framed bytes → is_frame_fault {P = P} (Ended outcome) ≡ false
-end_no_fault P bytes outcome is = ap (λ (o : Outcome). is_frame_fault {P = P} (Ended o)) is ∙ end_no_fault_by P (cut_at bytes)
+pub end_no_fault : (P : Type 0) (bytes : List ℕ) (outcome : Outcome) → outcome ≡ outcome_at_end Framed bytes → frame_read_failed {P = P} (Ended outcome) ≡ false
+end_no_fault P bytes outcome is = ap (λ (o : Outcome). frame_read_failed {P = P} (Ended o)) is ∙ end_no_fault_by P (cut_at bytes)
 
 end_by : (limit : ℕ) (rest : Option (List ℕ)) (read : List ℕ) (put : Flow) (cut : Option ℕ) → source_outcome Framed limit read ≡ option_map_or BadFrame cut Whole
     → IsAtEnd rest → put ≡ whole_frames read
-    → IsEndOfFrames limit rest read (option_map_or BadFrame cut Whole) × (put ≡ carried_as (option_map_or BadFrame cut Whole) (frames_within limit) read)
+    → EndsBy Framed limit rest read (option_map_or BadFrame cut Whole) × (put ≡ carried_as (option_map_or BadFrame cut Whole) (framed_source limit) read)
 end_by limit rest read put None told at_end all = ((told, at_end), all)
-end_by limit rest read put (Some at) told at_end all = ((told, inr at_end), all)
+end_by limit rest read put (Some at) told at_end all = (record { is = told; settled = inr at_end }, all)
 
 pub end_of_frames : (limit : ℕ) (rest : Option (List ℕ)) (read : List ℕ) (put : Flow) (outcome : Outcome) → outcome ≡ outcome_at_end Framed read
     → shown_by Framed limit read ≡ None → IsAtEnd rest → put ≡ whole_frames read
-    → IsEndOfFrames limit rest read outcome × (put ≡ carried_as outcome (frames_within limit) read)
+    → EndsBy Framed limit rest read outcome × (put ≡ carried_as outcome (framed_source limit) read)
 end_of_frames limit rest read put outcome is none at_end all =
-    subst (λ (o : Outcome). IsEndOfFrames limit rest read o × (put ≡ carried_as o (frames_within limit) read)) (sym is)
+    subst (λ (o : Outcome). EndsBy Framed limit rest read o × (put ≡ carried_as o (framed_source limit) read)) (sym is)
     (end_by limit rest read put (cut_at read) (unshown_is_at_end Framed limit read none) at_end all)
 
 -- what is shown whatever comes behind
@@ -170,27 +170,27 @@ long_of_shown None limit bytes most is = by_length (nat_lt limit (length bytes))
     by_length false is = absurd (cc)
 
 pub shown_end : (limit : ℕ) (rest : Option (List ℕ)) (read : List ℕ) (put : Flow) (outcome : Outcome) → shown_by Framed limit read ≡ Some outcome
-    → put ≡ whole_frames (take limit read) → IsEndOfFrames limit rest read outcome × (put ≡ carried_as outcome (frames_within limit) read)
+    → put ≡ whole_frames (take limit read) → EndsBy Framed limit rest read outcome × (put ≡ carried_as outcome (framed_source limit) read)
 shown_end limit rest read put Whole shown all = absurd (let no = shown_is_cause Framed limit read Whole shown in cc)
 shown_end limit rest read put ReadFault shown all = absurd (let no = shown_is_cause Framed limit read ReadFault shown in cc)
 shown_end limit rest read put WriteFault shown all = absurd (let no = shown_is_cause Framed limit read WriteFault shown in cc)
 shown_end limit rest read put (BadFrame at) shown all =
     let broken = broken_of_shown (broken_at (take limit read)) limit read at shown in (
-      (shown_is_told Framed limit read (BadFrame at) shown, inl shown),
+      record { is = shown_is_told Framed limit read (BadFrame at) shown; settled = inl shown },
       all ∙ sym (frames_past_broken (take limit read) (drop limit read) at broken) ∙ ap whole_frames (take-append-drop limit read),
     )
 shown_end limit rest read put (TooLong most) shown all =
     let same = long_of_shown (broken_at (take limit read)) limit read most shown in (
-      (shown_is_told Framed limit read (TooLong most) shown, inl shown),
+      shown,
       all ∙ ap (λ n. whole_frames (take n read)) same,
     )
 shown_end limit rest read put Broken shown all = absurd (let no = shown_is_cause Framed limit read Broken shown in cc)
 shown_end limit rest read put NoMemory shown all = absurd (let no = shown_is_cause Framed limit read NoMemory shown in cc)
 
-pub shown_no_fault : (P : Type 0) (limit : ℕ) (read : List ℕ) (outcome : Outcome) → shown_by Framed limit read ≡ Some outcome → is_frame_fault {P = P} (Ended outcome) ≡ false
+pub shown_no_fault : (P : Type 0) (limit : ℕ) (read : List ℕ) (outcome : Outcome) → shown_by Framed limit read ≡ Some outcome → frame_read_failed {P = P} (Ended outcome) ≡ false
 shown_no_fault P limit read outcome shown = by_outcome outcome (shown_is_cause Framed limit read outcome shown)
   where
-    by_outcome : (o : Outcome) → is_shown o ≡ true → is_frame_fault {P = P} (Ended o) ≡ false
+    by_outcome : (o : Outcome) → is_shown o ≡ true → frame_read_failed {P = P} (Ended o) ≡ false
     by_outcome Whole is = absurd (cc)
     by_outcome ReadFault is = absurd (cc)
     by_outcome WriteFault is = absurd (cc)
@@ -220,15 +220,15 @@ short_unshown limit = elim (leb_tells (suc limit) 0) [
   | inr within ↦ rw within.0 refl
 ]
 
-pub begins_unframing : {S : Type 0} (frames : FrameSource S) → IsReaderOf frames.reader [] [] → frames.shown ≡ None → frames.left ≡ frames.limit
-    → frames.limit ≤ MAX_LIMIT → Unframes frames [] []
-begins_unframing frames reads none lefts within =
+pub begins_giving : {S : Type 0} (frames : FrameSource S) → IsReaderOf frames.reader [] [] → frames.shown ≡ None → frames.left ≡ frames.limit
+    → frames.limit ≤ MAX_LIMIT → FramesStand frames [] []
+begins_giving frames reads none lefts within =
     let nothing : take frames.limit [] ≡ [] = take_all frames.limit [] (omega arith) in
     let unbroken : broken_at (take frames.limit []) ≡ None = ap broken_at nothing ∙ ap (broken_where 0) nothing_at_end in
     let shown : shown_by Framed frames.limit [] ≡ None =
     ap (λ place. option_or (option_map BadFrame place) (too_long frames.limit [])) unbroken ∙ short_unshown frames.limit in
     record {
-      unframed = subst (λ (l : List ℕ). IsReaderOf frames.reader l []) (sym nothing) reads;
+      reader = subst (λ (l : List ℕ). IsReaderOf frames.reader l []) (sym nothing) reads;
       known = none ∙ sym shown;
       rest = λ is. omega (arith, lefts);
       few = omega arith;

@@ -22,11 +22,12 @@ use Rattle.up_strand.proofs.Passing.{stand_still}
 use Rattle.up_strand.proofs.ReadSteps.{flow_so, reading_on, same_first}
 use Rattle.up_strand.proofs.ReadStrands.{read_goes_on}
 use Rattle.up_strand.proofs.StrandSteps.{looked_as, sinks_after, stepped_on, still_stopped, tree_is}
-use Rattle.up_strand.specs.Frames.{IsEndOfFrames, Unframed, Unframes, is_frame_fault, frames_within as framed_kind}
+use Rattle.up_strand.specs.Frames.{GaveFrame, FramesStand, frame_read_failed, framed_source}
 use Rattle.up_strand.specs.History.{History, head_flow, carried_by}
 use Rattle.up_strand.specs.Steps.{OnceLooked, TreeIs, TreeTook, ended_where}
+use Rattle.up_strand.specs.Reads.{EndsBy}
 use Rattle.up_strand.specs.StrandCalls.{SteppedRead, is_done, is_output}
-use Rattle.up_strand.specs.Strands.{EndsRightly, IsReading, IsUnframing, StandsFor, StandsForSome, first_ready, has_failed_at, ended_at_fault, want_of}
+use Rattle.up_strand.specs.Strands.{EndsRightly, IsReading, IsGivingFrames, StandsFor, StandsForSome, first_ready, has_failed_at, ended_at_fault, want_of}
 use Rattle.up_strand.specs.declared.frame_source.FrameSource.{FrameSource}
 use Rattle.up_strand.specs.declared.frame_source.NextFrame.{NextFrame}
 use Rattle.up_strand.specs.declared.frame_source.NextFrame.TheVariants as nexts
@@ -52,7 +53,7 @@ same_took plain state tree = record {
 }
 
 -- what a path is doesn't matter
-carried_alike : (outcome : Outcome) (path : List ℕ) (limit : ℕ) (read : List ℕ) → carried_as outcome (framed_kind limit) read ≡ carried_as outcome (kinds.Source path Framed limit) read
+carried_alike : (outcome : Outcome) (path : List ℕ) (limit : ℕ) (read : List ℕ) → carried_as outcome (framed_source limit) read ≡ carried_as outcome (kinds.Source path Framed limit) read
 carried_alike outcomes.Whole path limit read = refl
 carried_alike outcomes.ReadFault path limit read = refl
 carried_alike outcomes.WriteFault path limit read = refl
@@ -81,17 +82,17 @@ none_where false = refl
 
 -- a source that ended so ended rightly
 ends_as : (limit : ℕ) (rest : Option (List ℕ)) (h : History) (outcome : Outcome) → length h.read ≤ limit + 1 → (outcome ≢ outcomes.Whole → h.short ≡ false)
-    → IsEndOfFrames limit rest h.read outcome → EndsRightly Framed limit rest h (Some outcome)
+    → EndsBy Framed limit rest h.read outcome → EndsRightly Framed limit rest h (Some outcome)
 ends_as limit rest h outcomes.Whole few long ends = ends
-ends_as limit rest h outcomes.ReadFault few long ends = (long (λ same. cc), ends)
+ends_as limit rest h outcomes.ReadFault few long ends = record { long = long (λ same. cc); few = few; by = ends }
 ends_as limit rest h outcomes.WriteFault few long ends = absurd ends
-ends_as limit rest h (outcomes.BadFrame offset) few long ends = record { long = long (λ same. cc); few = few; is = ends.0; settled = ends.1 }
-ends_as limit rest h (outcomes.TooLong most) few long ends = record { long = long (λ same. cc); few = few; is = ends.0; settled = ends.1 }
+ends_as limit rest h (outcomes.BadFrame offset) few long ends = record { long = long (λ same. cc); few = few; by = ends }
+ends_as limit rest h (outcomes.TooLong most) few long ends = record { long = long (λ same. cc); few = few; by = ends }
 ends_as limit rest h outcomes.Broken few long ends = absurd ends
 ends_as limit rest h outcomes.NoMemory few long ends = absurd ends
 
-fault_as : (P : Type 0) (limit : ℕ) (rest : Option (List ℕ)) (read : List ℕ) (outcome : Outcome) → IsEndOfFrames limit rest read outcome
-    → is_frame_fault {P = P} (nexts.Ended outcome) ≡ ended_at_fault (Some outcome)
+fault_as : (P : Type 0) (limit : ℕ) (rest : Option (List ℕ)) (read : List ℕ) (outcome : Outcome) → EndsBy Framed limit rest read outcome
+    → frame_read_failed {P = P} (nexts.Ended outcome) ≡ ended_at_fault (Some outcome)
 fault_as P limit rest read outcomes.Whole ends = refl
 fault_as P limit rest read outcomes.ReadFault ends = refl
 fault_as P limit rest read outcomes.WriteFault ends = absurd ends
@@ -109,21 +110,21 @@ module _ {P S K : Type 0} (plain : P → PlainPacket) (reads : S → SourceState
   not_done = ap is_done wants
 
   module _ (h : History) (stood : StandsFor plain reads writes old h) where
-    pub was_unframing : IsUnframing (reads frames.source) frames h
-    was_unframing = rw from at stood.intake
+    pub was_giving : IsGivingFrames (reads frames.source) frames h
+    was_giving = rw from at stood.intake
 
     pub was_going : h.ended ≡ None
     was_going = sym stood.ended.ended ∙ read_goes_on plain reads writes old wants
 
     pub was_long : h.short ≡ false
-    was_long = let ends = rw was_going at was_unframing.reading.ends in ends.0
+    was_long = let ends = rw was_going at was_giving.reading.ends in ends.0
 
-    pub was_so : Unframes frames h.read h.fed
-    was_so = was_unframing.stands was_going
+    pub was_so : FramesStand frames h.read h.fed
+    was_so = was_giving.stands was_going
 
   -- it stood for something
-  pub unframes_some : StandsForSome plain reads writes old → (read : List ℕ) × ((put : Flow) × Unframes frames read put)
-  unframes_some stood = (stood.0.read, (stood.0.fed, was_so stood.0 stood.1))
+  pub gives_frames : StandsForSome plain reads writes old → (read : List ℕ) × ((put : Flow) × FramesStand frames read put)
+  gives_frames stood = (stood.0.read, (stood.0.fed, was_so stood.0 stood.1))
 
   module _ (new : FrameSource S) (taken : List ℕ) (ended : Option Outcome) (fed : Flow) (short : Bool) (h : History) where
     abbrev did : (ℕ → Bool) → (ℕ → SinkState) → History
@@ -141,16 +142,17 @@ module _ {P S K : Type 0} (plain : P → PlainPacket) (reads : S → SourceState
     -- what is to be known of a history, that it goes on so
     pub record GoesOn : Type 0 where
       pub ends : (failed : ℕ → Bool) (sinks_now : ℕ → SinkState) → EndsRightly Framed frames.limit (reads new.source).left (did failed sinks_now) ended
-      pub stands : ended ≡ None → Unframes new (h.read ++ taken) (h.fed ++ fed)
+      pub stands : ended ≡ None → FramesStand new (h.read ++ taken) (h.fed ++ fed)
       pub moves : ended ≡ None → 0 < length taken + length fed
       pub first : (path : List ℕ) → IsPrefix (h.fed ++ fed) (carried_by ended (h.fed ++ fed) (kinds.Source path Framed frames.limit) (h.read ++ taken))
       pub all : short ≡ false → (path : List ℕ) → h.fed ++ fed ≡ carried_by ended (h.fed ++ fed) (kinds.Source path Framed frames.limit) (h.read ++ taken)
+      pub before : 0 < length taken → h.fed ≡ whole_frames (take frames.limit h.read)
 
-  module _ {F : Type 0} (new : FrameSource S) (next : NextFrame P) (step : Unframed plain reads frames new next)
+  module _ {F : Type 0} (new : FrameSource S) (next : NextFrame P) (step : GaveFrame plain reads frames new next)
       (now : Strand P S K) (ended : Option Outcome) (fed : Flow)
       (same : now ≡ record old { tree = now.tree; intake = FromFrames new; ended = ended })
       (took : TreeTook plain writes old.tree now.tree fed) (is : TreeIs now.tree ended) (before after : StoreState F)
-      (fault : is_frame_fault next ≡ ended_at_fault ended) (one : length fed ≤ 1) (either : (step.taken ≡ []) ⊎ (fed ≡ []))
+      (fault : frame_read_failed next ≡ ended_at_fault ended) (one : length fed ≤ 1) (either : (step.taken ≡ []) ⊎ (fed ≡ []))
       (drawn : before.drawn + count_with_bytes fed ≤ after.drawn) where
     abbrev stepped : ℕ → Strand P S K
     stepped ready = record old { tree = now.tree; intake = FromFrames new; ended = ended; last = None; ready = ready }
@@ -167,14 +169,14 @@ module _ {P S K : Type 0} (plain : P → PlainPacket) (reads : S → SourceState
       faults = subst (λ (b : Bool). CountsOnce b (reads frames.source).faults (reads new.source).faults) fault step.faults
 
       flow_is : head_flow (did new step.taken ended fed now.tree.short h failed sinks_now)
-          ≡ carried_by ended (h.fed ++ fed) (kinds.Source (was_unframing h stood).reading.path Framed frames.limit) (h.read ++ step.taken)
-      flow_is = flow_so h (reads frames.source) (reads new.source) Framed frames.limit (was_unframing h stood).reading (was_going h stood) step.taken step.took fed ended now.tree.short
+          ≡ carried_by ended (h.fed ++ fed) (kinds.Source (was_giving h stood).reading.path Framed frames.limit) (h.read ++ step.taken)
+      flow_is = flow_so h (reads frames.source) (reads new.source) Framed frames.limit (was_giving h stood).reading (was_going h stood) step.taken step.took fed ended now.tree.short
           failed sinks_now
 
-      unframing : IsUnframing (reads new.source) new (did new step.taken ended fed now.tree.short h failed sinks_now)
+      unframing : IsGivingFrames (reads new.source) new (did new step.taken ended fed now.tree.short h failed sinks_now)
       unframing = record {
         reading = subst (λ (limit : ℕ). IsReading (reads new.source) Framed limit (did new step.taken ended fed now.tree.short h failed sinks_now)) (sym step.limit)
-            (reading_on h (reads frames.source) (reads new.source) Framed frames.limit (was_unframing h stood).reading (was_going h stood) step.taken step.took fed ended now.tree.short
+            (reading_on h (reads frames.source) (reads new.source) Framed frames.limit (was_giving h stood).reading (was_going h stood) step.taken step.took fed ended now.tree.short
             failed sinks_now faults (goes.ends failed sinks_now));
         stands = goes.stands;
       }
@@ -183,12 +185,20 @@ module _ {P S K : Type 0} (plain : P → PlainPacket) (reads : S → SourceState
       stands =
           stepped_on plain reads writes old now.tree (FromFrames new) ended ready h step.taken [] fed not_output not_done
           took.order took.nodes.count took.nodes.placed stood took.nodes.stand is found
-          (rw flow_is (goes.first (was_unframing h stood).reading.path, λ long. goes.all long (was_unframing h stood).reading.path))
+          (rw flow_is (goes.first (was_giving h stood).reading.path, λ long. goes.all long (was_giving h stood).reading.path))
           unframing
+
+      -- it is of one limit
+      within_limit : (pipe : Pipe) (path : List ℕ) (most : ℕ) → slice_get h.pipes h.head ≡ Some pipe → pipe.kind ≡ kinds.Source path Framed most → frames.limit ≡ most
+      within_limit pipe path most there kind =
+          let reading = (was_giving h stood).reading in
+          let there_too : Some reading.pipe ≡ Some pipe = sym reading.there ∙ there in
+          let kind_too : reading.pipe.kind ≡ kinds.Source reading.path Framed frames.limit = reading.kind in
+          cc
 
       is_framed : (pipe : Pipe) (path : List ℕ) (size most : ℕ) → slice_get h.pipes h.head ≡ Some pipe → pipe.kind ≡ kinds.Source path (Raw size) most → ⊥
       is_framed pipe path size most there kind =
-          let reading = (was_unframing h stood).reading in
+          let reading = (was_giving h stood).reading in
           let there_too : Some reading.pipe ≡ Some pipe = sym reading.there ∙ there in
           let kind_too : reading.pipe.kind ≡ kinds.Source reading.path Framed frames.limit = reading.kind in
           cc
@@ -211,7 +221,11 @@ module _ {P S K : Type 0} (plain : P → PlainPacket) (reads : S → SourceState
         moves = goes.moves;
         one = one;
         raw = λ pipe path size most there kind. absurd (is_framed pipe path size most there kind);
-        framed = λ pipe path most there kind. record { piece = step.piece; either = either };
+        framed = λ pipe path most there kind. record {
+          piece = step.piece;
+          either = either;
+          all = λ some. goes.before some ∙ ap (λ limit. whole_frames (take limit h.read)) (within_limit pipe path most there kind);
+        };
         drawn = drawn;
       }
 
@@ -228,13 +242,13 @@ module _ {P S K : Type 0} (plain : P → PlainPacket) (reads : S → SourceState
     Steps = OnceLooked now (λ strand. (h : History) → StandsFor plain reads writes old h → SteppedRead plain reads writes strand h before after)
 
     -- what was put out comes first of what more bytes hold
-    put_first : (from_source : FrameSource S) (read more : List ℕ) (put : Flow) → Unframes from_source read put → IsPrefix put (whole_frames (read ++ more))
+    put_first : (from_source : FrameSource S) (read more : List ℕ) (put : Flow) → FramesStand from_source read put → IsPrefix put (whole_frames (read ++ more))
     put_first from_source read more put so =
-        prefix_of_prefix put (whole_frames (take from_source.limit read)) (whole_frames (read ++ more)) (so.unframed.waiting, so.unframed.whole)
+        prefix_of_prefix put (whole_frames (take from_source.limit read)) (whole_frames (read ++ more)) (so.reader.waiting, so.reader.whole)
         (prefix_of_prefix (whole_frames (take from_source.limit read)) (whole_frames read) (whole_frames (read ++ more)) (frames_within from_source.limit read) (frames_first read more))
 
     -- a packet
-    pub packet_taken : (p : P) (step : Unframed plain reads frames new (nexts.Packet p)) → (0 < length (plain p).bytes → before.drawn < middle.drawn)
+    pub packet_taken : (p : P) (step : GaveFrame plain reads frames new (nexts.Packet p)) → (0 < length (plain p).bytes → before.drawn < middle.drawn)
         → now ≡ record old { tree = now.tree; intake = FromFrames new; ended = ended_where now.tree.short }
         → TreeTook plain writes old.tree now.tree (plain p ∷ []) → TreeIs now.tree (ended_where now.tree.short) → StandsForSome plain reads writes old → Steps
     packet_taken p step drew same took is some =
@@ -244,7 +258,7 @@ module _ {P S K : Type 0} (plain : P → PlainPacket) (reads : S → SourceState
         (λ h stood.
         let are = step.are h.read h.fed (was_so h stood) in
         let read_is : h.read ++ step.taken ≡ h.read = ap (λ l. h.read ++ l) none ∙ append-nil h.read in
-        let so : Unframes new (h.read ++ step.taken) (h.fed ++ plain p ∷ []) = subst (λ (l : List ℕ). Unframes new l (h.fed ++ plain p ∷ [])) (sym read_is) are.1 in
+        let so : FramesStand new (h.read ++ step.taken) (h.fed ++ plain p ∷ []) = subst (λ (l : List ℕ). FramesStand new l (h.fed ++ plain p ∷ [])) (sym read_is) are.1 in
         let begins : IsPrefix (h.fed ++ plain p ∷ []) (whole_frames (h.read ++ step.taken)) =
         subst (λ (l : List ℕ). IsPrefix (h.fed ++ plain p ∷ []) (whole_frames l)) (append-nil (h.read ++ step.taken)) (put_first new (h.read ++ step.taken) [] (h.fed ++ plain p ∷ []) so) in
         record {
@@ -254,10 +268,11 @@ module _ {P S K : Type 0} (plain : P → PlainPacket) (reads : S → SourceState
           moves = λ going. omega arith;
           first = λ path. first_where now.tree.short path frames.limit (h.fed ++ plain p ∷ []) (h.read ++ step.taken) begins;
           all = λ long path. all_where now.tree.short path frames.limit (h.fed ++ plain p ∷ []) (h.read ++ step.taken) long;
+          before = λ some. absurd (let nothing = ap length none in omega (arith, some, nothing));
         })
 
     -- a piece alone
-    pub piece_taken : (step : Unframed plain reads frames new nexts.Piece) → now ≡ record old { intake = FromFrames new } → StandsForSome plain reads writes old → Steps
+    pub piece_taken : (step : GaveFrame plain reads frames new nexts.Piece) → now ≡ record old { intake = FromFrames new } → StandsForSome plain reads writes old → Steps
     piece_taken step same some =
         let tree_same : now.tree ≡ old.tree = ap (λ (s : Strand P S K). s.tree) same in
         let as_before : now ≡ record old { tree = now.tree; intake = FromFrames new; ended = None } =
@@ -267,8 +282,9 @@ module _ {P S K : Type 0} (plain : P → PlainPacket) (reads : S → SourceState
         refl (omega arith) (inr refl) (let a = first.more in let b = then.more in omega (arith, a, b))
         (λ h stood.
         let are = step.are h.read h.fed (was_so h stood) in
-        let so : Unframes new (h.read ++ step.taken) (h.fed ++ []) = subst (λ (f : Flow). Unframes new (h.read ++ step.taken) f) (sym (append-nil h.fed)) are.1 in
+        let so : FramesStand new (h.read ++ step.taken) (h.fed ++ []) = subst (λ (f : Flow). FramesStand new (h.read ++ step.taken) f) (sym (append-nil h.fed)) are.1 in
         record {
+          before = λ some. are.2 ∙ ap (λ limit. whole_frames (take limit h.read)) step.limit;
           ends = λ failed sinks_now. (ap (λ (t : Tree P K). t.short) tree_same ∙ stood.ended.short ∙ was_long h stood, let few = so.few in let limit = step.limit in omega (arith, few, limit));
           stands = λ going. so;
           moves = λ going. let moved = are.0 in omega (arith, moved);
@@ -277,7 +293,7 @@ module _ {P S K : Type 0} (plain : P → PlainPacket) (reads : S → SourceState
         })
 
     -- the end
-    pub frames_ended : (outcome : Outcome) (step : Unframed plain reads frames new (nexts.Ended outcome))
+    pub frames_ended : (outcome : Outcome) (step : GaveFrame plain reads frames new (nexts.Ended outcome))
         → now ≡ record old { tree = now.tree; intake = FromFrames new; ended = Some outcome }
         → TreeTook plain writes old.tree now.tree [] → TreeIs now.tree (Some outcome) → (outcome ≢ outcomes.Whole → now.tree.short ≡ old.tree.short) → StandsForSome plain reads writes old → Steps
     frames_ended outcome step same took is short some =
@@ -288,11 +304,11 @@ module _ {P S K : Type 0} (plain : P → PlainPacket) (reads : S → SourceState
         (λ h stood.
         let are = step.are h.read h.fed (was_so h stood) in
         let read_is : h.read ++ step.taken ≡ h.read = ap (λ l. h.read ++ l) none ∙ append-nil h.read in
-        let ends_here : IsEndOfFrames frames.limit (reads new.source).left (h.read ++ step.taken) outcome =
-        subst (λ (limit : ℕ). IsEndOfFrames limit (reads new.source).left (h.read ++ step.taken) outcome) step.limit
-        (subst (λ (l : List ℕ). IsEndOfFrames new.limit (reads new.source).left l outcome) (sym read_is) are.1) in
+        let ends_here : EndsBy Framed frames.limit (reads new.source).left (h.read ++ step.taken) outcome =
+        subst (λ (limit : ℕ). EndsBy Framed limit (reads new.source).left (h.read ++ step.taken) outcome) step.limit
+        (subst (λ (l : List ℕ). EndsBy Framed new.limit (reads new.source).left l outcome) (sym read_is) are.1) in
         let flow : (path : List ℕ) → h.fed ++ [] ≡ carried_as outcome (kinds.Source path Framed frames.limit) (h.read ++ step.taken) =
-        λ path. append-nil h.fed ∙ are.2 ∙ ap (λ (limit : ℕ). carried_as outcome (framed_kind limit) h.read) step.limit
+        λ path. append-nil h.fed ∙ are.2 ∙ ap (λ (limit : ℕ). carried_as outcome (framed_source limit) h.read) step.limit
         ∙ carried_alike outcome path frames.limit h.read ∙ ap (λ (l : List ℕ). carried_as outcome (kinds.Source path Framed frames.limit) l) (sym read_is) in
         record {
           ends = λ failed sinks_now. ends_as frames.limit (reads new.source).left (did new step.taken (Some outcome) [] now.tree.short h failed sinks_now) outcome
@@ -301,19 +317,22 @@ module _ {P S K : Type 0} (plain : P → PlainPacket) (reads : S → SourceState
           moves = λ wrong. absurd (cc);
           first = λ path. same_first (h.fed ++ []) _ (sym (flow path));
           all = λ long path. flow path;
+          before = λ some. absurd (let nothing = ap length none in omega (arith, some, nothing));
         })
 
     -- and no memory
-    pub no_frame_taken : (step : Unframed plain reads frames new nexts.NoMemory)
+    pub no_frame_taken : (step : GaveFrame plain reads frames new nexts.NoMemory)
         → now ≡ record old { tree = now.tree; intake = FromFrames new; ended = Some outcomes.NoMemory }
         → TreeTook plain writes old.tree now.tree [] → TreeIs now.tree (Some outcomes.NoMemory) → now.tree.short ≡ true → Steps
     no_frame_taken step same took is short =
         frame_taken new nexts.NoMemory step now (Some outcomes.NoMemory) [] same took is before after
         refl (omega arith) (inr refl) (let a = first.more in let b = then.more in omega (arith, a, b))
         (λ h stood.
-        let few = step.are h.read h.fed (was_so h stood) in
+        let are = step.are h.read h.fed (was_so h stood) in
+        let few = are.0 in
         let limit = step.limit in
         record {
+          before = λ some. are.1 some ∙ ap (λ most. whole_frames (take most h.read)) step.limit;
           ends = λ failed sinks_now. (short, omega (arith, few, limit));
           stands = λ wrong. absurd (cc);
           moves = λ wrong. absurd (cc);

@@ -3,7 +3,7 @@ use Rattle.std.proofs.Common.{◌≡◌, ◌⊎◌, ℕ, ◌+◌, ◌≤◌, Lis
 use Rattle.std.specs.Option.{option_map_or}
 use Rattle.std.proofs.lemmas.Option.{same_Some}
 use Rattle.up_model.proofs.Members.{passing_pipe}
-use Rattle.up_model.proofs.Shown.{unshown_within, whole_unshown}
+use Rattle.up_model.proofs.Shown.{shown_is_told, unshown_within, whole_unshown}
 use Rattle.up_model.specs.Ends.{is_source}
 use Rattle.up_model.specs.Inputs.{ends_at_source, passes_at}
 use Rattle.up_model.specs.Outcomes.{is_cause, own_outcome, shown_by, shown_of}
@@ -36,8 +36,8 @@ ended_by_itself : (path : List ℕ) (form : SourceForm) (limit : ℕ) (rest : Op
 ended_by_itself path form limit rest h Whole long ends = ap Some ends.0
 ended_by_itself path form limit rest h ReadFault long ends = refl
 ended_by_itself path form limit rest h WriteFault long ends = absurd ends
-ended_by_itself path form limit rest h (BadFrame offset) long ends = ap Some ends.is
-ended_by_itself path form limit rest h (TooLong most) long ends = ap Some ends.is
+ended_by_itself path form limit rest h (BadFrame offset) long ends = ap Some ends.by.is
+ended_by_itself path form limit rest h (TooLong most) long ends = ap Some (shown_is_told form limit h.read (TooLong most) ends.by)
 ended_by_itself path form limit rest h Broken long ends = absurd ends
 ended_by_itself path form limit rest h NoMemory long ends = absurd (let no = sym long ∙ ends.0 in cc)
 
@@ -67,7 +67,7 @@ reads_form reads FromLane h behind = inr behind
 pub few_read : (form : SourceForm) (limit : ℕ) (rest : Option (List ℕ)) (h : History) (ended : Option Outcome) → EndsRightly form limit rest h ended → length h.read ≤ limit + 1
 few_read form limit rest h None ends = ends.1
 few_read form limit rest h (Some Whole) ends = let within = unshown_within form limit h.read (whole_unshown form limit h.read ends.0) in omega (arith, within)
-few_read form limit rest h (Some ReadFault) ends = let within = unshown_within form limit h.read ends.1 in omega (arith, within)
+few_read form limit rest h (Some ReadFault) ends = ends.few
 few_read form limit rest h (Some WriteFault) ends = absurd ends
 few_read form limit rest h (Some (BadFrame offset)) ends = ends.few
 few_read form limit rest h (Some (TooLong most)) ends = ends.few
@@ -78,7 +78,7 @@ none_shown : (form : SourceForm) (limit : ℕ) (rest : Option (List ℕ)) (h : H
     → shown_by form limit h.read ≡ None
 none_shown form limit rest h None fault ends = absurd (cc)
 none_shown form limit rest h (Some Whole) fault ends = absurd (cc)
-none_shown form limit rest h (Some ReadFault) fault ends = ends.1
+none_shown form limit rest h (Some ReadFault) fault ends = ends.by
 none_shown form limit rest h (Some WriteFault) fault ends = absurd (cc)
 none_shown form limit rest h (Some (BadFrame offset)) fault ends = absurd (cc)
 none_shown form limit rest h (Some (TooLong most)) fault ends = absurd (cc)
@@ -88,7 +88,7 @@ none_shown form limit rest h (Some NoMemory) fault ends = absurd (cc)
 -- where a source ended by a cause of its own, memory hadn't run out
 long_at_cause : (form : SourceForm) (limit : ℕ) (rest : Option (List ℕ)) (h : History) (outcome : Outcome) → is_cause outcome ≡ true → EndsRightly form limit rest h (Some outcome) → h.short ≡ false
 long_at_cause form limit rest h Whole cause ends = absurd (cc)
-long_at_cause form limit rest h ReadFault cause ends = ends.0
+long_at_cause form limit rest h ReadFault cause ends = ends.long
 long_at_cause form limit rest h WriteFault cause ends = absurd ends
 long_at_cause form limit rest h (BadFrame offset) cause ends = ends.long
 long_at_cause form limit rest h (TooLong most) cause ends = ends.long

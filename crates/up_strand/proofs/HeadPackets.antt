@@ -18,7 +18,7 @@ use Rattle.up_model.specs.declared.kind.Kind.TheVariants as kinds
 use Rattle.up_model.specs.declared.outcome.Outcome.{Outcome}
 use Rattle.up_model.specs.declared.pipe.Pipe.{Pipe}
 use Rattle.up_outside.specs.States.{SourceState}
-use Rattle.up_strand.proofs.HeadFlows.{few_read_of_head, no_source}
+use Rattle.up_strand.proofs.HeadFlows.{no_source}
 use Rattle.up_strand.specs.History.{History, carried_by, head_flow}
 use Rattle.up_strand.specs.Strands.{IntakeStands, IsReading}
 use Rattle.up_strand.specs.declared.intake.Intake.{Intake}
@@ -49,7 +49,7 @@ module _ {S : Type 0} (reads : S → SourceState) where
   settled_first (FromSource source block limit left) h pipe cutting there source_is going =
       as_kind (reads source) (Raw block) limit h pipe cutting.reading there ([], sym (cutting.put going) ∙ sym (append-nil h.fed))
   settled_first (FromFrames frames) h pipe unframing there source_is going =
-      let stood = (unframing.stands going).unframed in
+      let stood = (unframing.stands going).reader in
       as_kind (reads frames.source) Framed frames.limit h pipe unframing.reading there
       (prefix_of_prefix h.fed (whole_frames (take frames.limit h.read)) (whole_frames h.read) (stood.waiting, stood.whole) (frames_within frames.limit h.read))
   settled_first FromLane h pipe behind there source_is going = absurd (no_source h pipe behind there source_is)
@@ -61,13 +61,23 @@ module _ {S : Type 0} (reads : S → SourceState) where
   few_by h kind (Some ended) within is first settled =
       omega (arith, short_prefix h.fed (carried_by (Some ended) h.fed kind h.read) first, few_carried ended kind h.read within)
 
+  -- all blocks that the bytes of a raw source fill
+  pub blocks_all : (intake : Intake S) (h : History) (pipe : Pipe) (path : List ℕ) (size most : ℕ) → IntakeStands reads intake h → slice_get h.pipes h.head ≡ Some pipe
+      → pipe.kind ≡ kinds.Source path (Raw size) most → h.ended ≡ None → h.fed ≡ settled_source_flow pipe.kind h.read
+  blocks_all (FromSource source block limit left) h pipe path size most cutting there kind going =
+      let same : cutting.reading.pipe ≡ pipe = same_Some cutting.reading.pipe pipe (sym cutting.reading.there ∙ there) in
+      let kind_is : pipe.kind ≡ kinds.Source cutting.reading.path (Raw block) limit = ap (λ (p : Pipe). p.kind) (sym same) ∙ cutting.reading.kind in
+      cutting.put going ∙ ap (λ (k : Kind). settled_source_flow k h.read) (sym kind_is)
+  blocks_all (FromFrames frames) h pipe path size most unframing there kind going =
+      let same : unframing.reading.pipe ≡ pipe = same_Some unframing.reading.pipe pipe (sym unframing.reading.there ∙ there) in
+      let kind_is : pipe.kind ≡ kinds.Source unframing.reading.path Framed frames.limit = ap (λ (p : Pipe). p.kind) (sym same) ∙ unframing.reading.kind in
+      absurd (let wrong : kinds.Source path (Raw size) most ≡ kinds.Source unframing.reading.path Framed frames.limit = sym kind ∙ kind_is in cc)
+  blocks_all FromLane h pipe path size most behind there kind going = absurd (no_source h pipe behind there (ap is_source kind))
+
   -- no more packets than bytes
-  pub few_fed : (intake : Intake S) (h : History) (pipe : Pipe) (path : List ℕ) (form : SourceForm) (limit : ℕ) → IsWellFormed h.pipes → IntakeStands reads intake h
-      → IsPrefix h.fed (head_flow h) → slice_get h.pipes h.head ≡ Some pipe → pipe.kind ≡ kinds.Source path form limit → length h.fed ≤ limit + 1
-  few_fed intake h pipe path form limit well stands first there kind =
-      let source_is : is_source pipe.kind ≡ true = ap is_source kind in
+  pub few_fed : (intake : Intake S) (h : History) (pipe : Pipe) → IsWellFormed h.pipes → IntakeStands reads intake h
+      → IsPrefix h.fed (head_flow h) → slice_get h.pipes h.head ≡ Some pipe → is_source pipe.kind ≡ true → length h.fed ≤ length h.read
+  few_fed intake h pipe well stands first there source_is =
       let flow : head_flow h ≡ carried_by h.ended h.fed pipe.kind h.read = rw (there, source_is) refl in
-      let few = few_by h pipe.kind h.ended (is_pipe h.pipes well h.head pipe there).kind refl (subst (IsPrefix h.fed) flow first)
-      (λ going. settled_first intake h pipe stands there source_is going) in
-      let read = few_read_of_head reads intake h pipe path form limit stands there kind in
-      omega (arith, few, read)
+      few_by h pipe.kind h.ended (is_pipe h.pipes well h.head pipe there).kind refl (subst (IsPrefix h.fed) flow first)
+      (λ going. settled_first intake h pipe stands there source_is going)

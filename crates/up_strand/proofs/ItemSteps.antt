@@ -98,8 +98,8 @@ module _ {P S K : Type 0} (plain : P → PlainPacket) (reads : S → SourceState
       }))
 
   -- it has no source
-  uncalled : source_in reads old.intake ≡ h.source_now
-  uncalled = ap (source_in reads) (behind old.intake refl) ∙ sym lane_stands.none_now
+  source_stays : source_in reads old.intake ≡ h.source_now
+  source_stays = ap (source_in reads) (behind old.intake refl) ∙ sym lane_stands.none_now
 
   stays : TreeTook plain writes old.tree tree fed → h.short ≡ true → tree.short ≡ true
   stays took short = took.stays (stood.ended.short ∙ short)
@@ -142,7 +142,7 @@ module _ {P S K : Type 0} (plain : P → PlainPacket) (reads : S → SourceState
             );
           };
           unread = refl;
-          uncalled = uncalled plain reads writes old now.tree ended ready h [] fed wants stood;
+          source_stays = source_stays plain reads writes old now.tree ended ready h [] fed wants stood;
           ended = is_end;
         })
 

@@ -15,7 +15,7 @@ use Rattle.up_strand.specs.History.{History}
 use Rattle.up_strand.specs.Nodes.{has_ended, has_failed, is_outlet, is_pipe, is_whole, takes_from}
 use Rattle.up_strand.specs.OfGraph.{AreNodesOf, IsNodeOf}
 use Rattle.up_strand.specs.Stand.{AreAsPlaced, Past, Stand}
-use Rattle.up_strand.specs.Strands.{EndsRightly, IsReading, IsTold, IntakeStands, IsAsEnded, IsBuilt, IsSent, StandsFor, node_of, place_of}
+use Rattle.up_strand.specs.Strands.{EndedWithMemory, EndsRightly, IsReading, IntakeStands, IsAsEnded, IsBuilt, IsSent, StandsFor, node_of, place_of}
 use Rattle.up_strand.specs.declared.intake.Intake.{Intake}
 use Rattle.up_strand.specs.declared.intake.Intake.TheVariants.{FromSource, FromFrames, FromLane}
 use Rattle.up_strand.specs.declared.node.Node.{Node}
@@ -42,18 +42,18 @@ abbrev pub taken_so : History → (ℕ → Flow) → (ℕ → Bool) → History
 taken_so h sent closed = record h { sent = sent; closed = closed }
 
 module _ (h : History) (sent : ℕ → Flow) (closed : ℕ → Bool) where
-  told_so : (form : SourceForm) (limit : ℕ) (rest : Option (List ℕ)) (outcome : Outcome) → IsTold form limit rest h outcome
-      → IsTold form limit rest (taken_so h sent closed) outcome
-  told_so form limit rest outcome told = record { long = told.long; few = told.few; is = told.is; settled = told.settled }
+  alone_so : (form : SourceForm) (limit : ℕ) (rest : Option (List ℕ)) (outcome : Outcome) → EndedWithMemory form limit rest h outcome
+      → EndedWithMemory form limit rest (taken_so h sent closed) outcome
+  alone_so form limit rest outcome ended = record { long = ended.long; few = ended.few; by = ended.by }
 
   ends_so : (form : SourceForm) (limit : ℕ) (rest : Option (List ℕ)) (ended : Option Outcome) → EndsRightly form limit rest h ended
       → EndsRightly form limit rest (taken_so h sent closed) ended
   ends_so form limit rest None ends = ends
   ends_so form limit rest (Some outcomes.Whole) ends = ends
-  ends_so form limit rest (Some outcomes.ReadFault) ends = ends
+  ends_so form limit rest (Some outcomes.ReadFault) ends = alone_so form limit rest outcomes.ReadFault ends
   ends_so form limit rest (Some outcomes.WriteFault) ends = ends
-  ends_so form limit rest (Some (outcomes.BadFrame offset)) ends = told_so form limit rest (outcomes.BadFrame offset) ends
-  ends_so form limit rest (Some (outcomes.TooLong most)) ends = told_so form limit rest (outcomes.TooLong most) ends
+  ends_so form limit rest (Some (outcomes.BadFrame offset)) ends = alone_so form limit rest (outcomes.BadFrame offset) ends
+  ends_so form limit rest (Some (outcomes.TooLong most)) ends = alone_so form limit rest (outcomes.TooLong most) ends
   ends_so form limit rest (Some outcomes.Broken) ends = ends
   ends_so form limit rest (Some outcomes.NoMemory) ends = ends
 

@@ -4,7 +4,7 @@ use Rattle.std.proofs.KnownBytes.{Consumes-trans}
 use Rattle.up_base.specs.Lists.{IsPrefix}
 use Rattle.std.proofs.lemmas.Bool.Decides.{leb_tells}
 use Rattle.up_model.proofs.Blocks.{full_blocks-go_on}
-use Rattle.up_model.proofs.Shown.{shown_is_told, unshown_is_at_end}
+use Rattle.up_model.proofs.Shown.{unshown_is_at_end}
 use Rattle.up_model.specs.Cutting.{blocks, full_blocks}
 use Rattle.up_model.specs.Outcomes.{shown_by, source_outcome}
 use Rattle.up_model.specs.Packet.{Flow, plain as bare}
@@ -22,7 +22,7 @@ use Rattle.up_strand.proofs.Cutting.{full_blocks-more, full_blocks-short, blocks
 use Rattle.up_strand.specs.History.{History, head_flow, carried_by}
 use Rattle.up_strand.specs.Reads.{WereRead}
 use Rattle.up_strand.specs.Steps.{taken_where}
-use Rattle.up_strand.specs.Strands.{EndsRightly, IsCutting, IsReading, IsTold, ended_at_fault}
+use Rattle.up_strand.specs.Strands.{EndedWithMemory, EndsRightly, IsCutting, IsReading, ended_at_fault}
 
 -- one read and then another
 took_on : (a b c : SourceState) (one two : List ℕ) → WereRead a b one (length one) → WereRead b c two (length two) → WereRead a c (one ++ two) (length (one ++ two))
@@ -81,12 +81,11 @@ raw_shown block limit bytes many = elim (leb_tells (suc limit) (length bytes)) [
   | inr other ↦ absurd (omega (arith, many, other.1))
 ]
 
-pub raw_told : (block limit : ℕ) (rest : Option (List ℕ)) (h : History) → h.short ≡ false → length h.read ≡ limit + 1 → IsTold (Raw block) limit rest h (TooLong limit)
+pub raw_told : (block limit : ℕ) (rest : Option (List ℕ)) (h : History) → h.short ≡ false → length h.read ≡ limit + 1 → EndedWithMemory (Raw block) limit rest h (TooLong limit)
 raw_told block limit rest h long many = record {
   long = long;
   few = omega (arith, many);
-  is = shown_is_told (Raw block) limit h.read (TooLong limit) (raw_shown block limit h.read many);
-  settled = inl (raw_shown block limit h.read many);
+  by = raw_shown block limit h.read many;
 }
 
 module _ (h : History) (was now : SourceState) (form : SourceForm) (limit : ℕ) (reading : IsReading was form limit h) (going : h.ended ≡ None)

@@ -20,7 +20,7 @@ use Rattle.up_strand.proofs.ReadSteps.{block_more, cutting_on, end_more, fault_m
 use Rattle.up_strand.proofs.StrandSteps.{goes_on, looked_as, sinks_after, stepped_on, still_stopped, tree_going}
 use Rattle.up_strand.specs.Gifts.{NodesFit}
 use Rattle.up_strand.specs.History.{History, head_flow, carried_by}
-use Rattle.up_strand.specs.Reads.{ReadsPacket, is_read_fault as is_fault_of}
+use Rattle.up_strand.specs.Reads.{ReadsPacket, block_read_failed as is_fault_of}
 use Rattle.up_strand.specs.Steps.{IsGoing, OnceLooked, TreeIs, TreeTook, ended_where}
 use Rattle.up_strand.specs.StrandCalls.{SteppedRead, is_done, is_output}
 use Rattle.up_strand.specs.Strands.{EndsRightly, IsCutting, StandsFor, StandsForSome, StrandFits, first_ready, has_failed_at, ended_at_fault, want_of}
@@ -320,7 +320,7 @@ module _ {P S K : Type 0} (plain : P → PlainPacket) (reads : S → SourceState
           let flow = still h stood (full_blocks block (h.read ++ read.taken))
           (fault_more h (reads source) (reads source_now) block limit left reading going read.taken read.took [] (Some outcomes.ReadFault) false (λ place. false) h.sinks_now read.faults read.are.0) in
           record {
-            ends = λ failed sinks_now. (short ∙ tree_long h stood, raw_unshown block limit (h.read ++ read.taken) (omega (arith, sum, fits, long)));
+            ends = λ failed sinks_now. record { long = short ∙ tree_long h stood; few = omega (arith, sum, fits, long); by = raw_unshown block limit (h.read ++ read.taken) (omega (arith, sum, fits, long)) };
             rest = λ wrong. absurd (cc);
             even = λ wrong. absurd (cc);
             moves = λ wrong. absurd (cc);

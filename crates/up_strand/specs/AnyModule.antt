@@ -34,7 +34,14 @@ AnyStands (Delay m) flow = StandsFor m flow
 abbrev pub has_module : Kind → Bool
 has_module (kinds.Source path form limit) = false
 has_module (kinds.Sink path form) = false
-has_module kind = true
+has_module kinds.Idem = true
+has_module kinds.Null = true
+has_module kinds.Dup = true
+has_module (kinds.Skip bytes) = true
+has_module (kinds.SetAttr attr value) = true
+has_module (kinds.DelAttr attr) = true
+has_module (kinds.MatchAttr attr low high) = true
+has_module (kinds.Delay by) = true
 
 -- its options are within their bounds
 pub any_within : (m : AnyModule) → IsWithinBounds (any_kind m)

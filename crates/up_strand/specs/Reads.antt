@@ -1,7 +1,11 @@
--- What is read of a source, a packet's worth at a time.
-use Rattle.std.specs.Prelude.{◌≡◌, ℕ, ◌+◌, ◌<◌, ◌≤◌, Bool, true, false, List, [], length, take, Option}
+-- What is read of a source, how a source of either form ends by that, and which packets a raw one gives.
+use Rattle.std.specs.Prelude.{◌≡◌, ◌⊎◌, ℕ, ◌+◌, ◌<◌, ◌≤◌, Bool, true, false, List, [], length, take, Option, Some, None}
 use Rattle.std.specs.Io.KnownBytes.{Consumes, IsAtEnd}
+use Rattle.up_model.specs.Outcomes.{shown_by, source_outcome}
 use Rattle.up_model.specs.Packet.{plain as bare}
+use Rattle.up_model.specs.declared.form.SourceForm.{SourceForm}
+use Rattle.up_model.specs.declared.outcome.Outcome.{Outcome}
+use Rattle.up_model.specs.declared.outcome.Outcome.TheVariants as outcomes
 use Rattle.up_model.specs.declared.plain_packet.PlainPacket.{PlainPacket}
 use Rattle.up_outside.specs.Counts.{CountsOnce}
 use Rattle.up_outside.specs.States.{SourceState}
@@ -24,21 +28,40 @@ is_fault stops.Full = false
 is_fault stops.End = false
 is_fault stops.Fault = true
 
+-- the outcome is that of bytes of the form: they show it whatever comes behind them, or nothing does
+pub record IsTold (form : SourceForm) (limit : ℕ) (rest : Option (List ℕ)) (read : List ℕ)
+    (outcome : Outcome) : Type 0 where
+  pub is : source_outcome form limit read ≡ outcome
+  pub settled : (shown_by form limit read ≡ Some outcome) ⊎ IsAtEnd rest
+
+-- how a source of the form ends that gave these bytes: as they tell, or at a failed read where they show no cause
+abbrev pub EndsBy : SourceForm → ℕ → Option (List ℕ) → List ℕ → Outcome → Type 0
+EndsBy form limit rest read outcomes.Whole =
+    (source_outcome form limit read ≡ outcomes.Whole) × IsAtEnd rest
+EndsBy form limit rest read outcomes.ReadFault = shown_by form limit read ≡ None
+EndsBy form limit rest read outcomes.WriteFault = ⊥
+EndsBy form limit rest read (outcomes.BadFrame offset) =
+    IsTold form limit rest read (outcomes.BadFrame offset)
+EndsBy form limit rest read (outcomes.TooLong most) =
+    shown_by form limit read ≡ Some (outcomes.TooLong most)
+EndsBy form limit rest read outcomes.Broken = ⊥
+EndsBy form limit rest read outcomes.NoMemory = ⊥
+
 -- the front of the room was filled
 pub record Fills (old new : SourceState) (room : List ℕ) (filled : Filled) : Type 0 where
   pub took : WereRead old new (take filled.count room) filled.count
   pub end : filled.stop ≡ stops.End → IsAtEnd new.left
   pub faults : CountsOnce (is_fault filled.stop) old.faults new.faults
 
--- the answer is a fault of the source
-abbrev pub is_read_fault : {P : Type 0} → Next P → Bool
-is_read_fault (Packet p) = false
-is_read_fault (Last p) = false
-is_read_fault End = false
-is_read_fault Fault = true
-is_read_fault TooLong = false
-is_read_fault NoRoom = false
-is_read_fault NoMemory = false
+-- a read of the source failed
+abbrev pub block_read_failed : {P : Type 0} → Next P → Bool
+block_read_failed (Packet p) = false
+block_read_failed (Last p) = false
+block_read_failed End = false
+block_read_failed Fault = true
+block_read_failed TooLong = false
+block_read_failed NoRoom = false
+block_read_failed NoMemory = false
 
 module _ {P : Type 0} (plain : P → PlainPacket) (block left : ℕ) where
   -- what the bytes that were taken are, by the answer: a block, or fewer at the end; what doesn't
@@ -62,7 +85,7 @@ module _ {P : Type 0} (plain : P → PlainPacket) (block left : ℕ) where
     pub in_block : length taken ≤ block
     pub in_limit : length taken ≤ left + 1
     pub are : AreReadAs new.left taken next
-    pub faults : CountsOnce (is_read_fault next) old.faults new.faults
+    pub faults : CountsOnce (block_read_failed next) old.faults new.faults
 
 -- the packet is of the family
 abbrev pub NextFits : {P F : Type 0} → (P → F → Type 0) → F → Next P → Type 0

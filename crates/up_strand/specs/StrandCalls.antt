@@ -23,6 +23,7 @@ use Rattle.up_queue.specs.declared.end_kind.EndKind.TheVariants as ends
 use Rattle.up_queue.specs.declared.item.Item.{Item}
 use Rattle.up_queue.specs.declared.item.Item.TheVariants.{Packet, End}
 use Rattle.up_shape.specs.Stores.{StoreState}
+use Rattle.up_strand.specs.Frames.{PutAll}
 use Rattle.up_strand.specs.History.{History, doing, end_by, head_flow, sums_at, to_head, told_at, told_at_last}
 use Rattle.up_strand.specs.Reads.{WereRead}
 use Rattle.up_strand.specs.Strands.{StandsFor, ended_at_fault, place_of}
@@ -153,10 +154,12 @@ module _ {P S K : Type 0} (plain : P → PlainPacket) (reads : S → SourceState
     pub room : ended ≢ Some outcomes.NoMemory → old.drawn < new.drawn
     pub into : 0 < length read → old.drawn < new.drawn
 
-  -- a source of frames gave a piece of bytes, or a packet of them was put out
-  pub record StepsByFrame (read : List ℕ) (fed : Flow) : Type 0 where
+  -- a packet of a source of frames was put out; or it gave a piece of bytes, once all packets of those before
+  -- were
+  pub record StepsByFrame (limit : ℕ) (h : History) (read : List ℕ) (fed : Flow) : Type 0 where
     pub piece : length read ≤ MAX_PIECE
     pub either : (read ≡ []) ⊎ (fed ≡ [])
+    pub all : 0 < length read → PutAll limit h.read h.fed
 
   -- the source gave bytes, or a packet of them was put out, or its flow ended; for each packet with
   -- bytes more was drawn of the store
@@ -171,14 +174,14 @@ module _ {P S K : Type 0} (plain : P → PlainPacket) (reads : S → SourceState
         → StepsByBlock size old new step.read step.ended
     pub framed : (pipe : Pipe) (path : List ℕ) (limit : ℕ)
         → slice_get h.pipes h.head ≡ Some pipe
-        → pipe.kind ≡ kinds.Source path Framed limit → StepsByFrame step.read step.fed
+        → pipe.kind ≡ kinds.Source path Framed limit → StepsByFrame limit h step.read step.fed
     pub drawn : old.drawn + count_with_bytes step.fed ≤ new.drawn
 
   -- the item came through the lane of the head
   pub record SteppedItem (strand : Strand P S K) (h : History) (item : Item P) : Type 0 where
     pub step : Stepped strand h (packets_in plain item)
     pub unread : step.read ≡ []
-    pub uncalled : step.source_now ≡ h.source_now
+    pub source_stays : step.source_now ≡ h.source_now
     pub ended : step.ended ≡ end_in item
 
   -- the item went out for the lane, whose end hadn't
@@ -228,7 +231,7 @@ pub record SourceEnds (h : History) (now : SourceState) : Type 0 where
   pub once : now.faults ≤ start.faults + 1
   pub left : h.source_now ≡ Some now
   pub whole : h.ended ≡ Some outcomes.Whole → IsAtEnd now.left
-  -- what isn't shown by the bytes whatever comes behind them is told where nothing does
+  -- a bad frame that the bytes don't show yet is told only where nothing comes behind them
   pub settled : (offset : ℕ) → h.ended ≡ Some (outcomes.BadFrame offset)
       → (shown_at_head h ≡ Some (outcomes.BadFrame offset)) ⊎ IsAtEnd now.left
 

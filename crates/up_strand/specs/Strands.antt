@@ -1,11 +1,10 @@
 -- What a strand stands for: what it did since it was made.
-use Rattle.std.specs.Prelude.{◌≡◌, ◌⊎◌, ℕ, ◌+◌, ◌*◌, ◌<◌, ◌≤◌, ◌==◌, ◌++◌, ◌&&◌, ◌||◌, List, [], length, map, slice_get, slice_index_or, Bool, true, false, not, is_some, Option, Some, None, MatchOption, nat_le, nat_lt, option_and_then, if◌then◌else◌}
+use Rattle.std.specs.Prelude.{◌≡◌, ℕ, ◌+◌, ◌*◌, ◌<◌, ◌≤◌, ◌==◌, ◌++◌, ◌&&◌, ◌||◌, List, [], length, map, slice_get, slice_index_or, Bool, true, false, not, is_some, Option, Some, None, MatchOption, nat_le, nat_lt, option_and_then, if◌then◌else◌}
 use Rattle.std.specs.List.{Contains, range_with_len, position}
 use Rattle.std.specs.Option.{option_map_or, option_to_list}
-use Rattle.std.specs.Io.KnownBytes.{IsAtEnd}
 use Rattle.up_base.specs.Lists.{IsPrefix}
 use Rattle.up_model.specs.Inputs.{input_at, passes_at}
-use Rattle.up_model.specs.Outcomes.{settled_packets_of, shown_by, source_outcome}
+use Rattle.up_model.specs.Outcomes.{settled_packets_of}
 use Rattle.up_model.specs.Plans.{heads, is_fed, outlets_of, sinks_of, strand_of}
 use Rattle.up_model.specs.WellFormed.{IsWellFormed}
 use Rattle.up_model.specs.declared.form.SourceForm.{SourceForm}
@@ -18,12 +17,12 @@ use Rattle.up_model.specs.declared.pipe.Pipe.{Pipe}
 use Rattle.up_model.specs.declared.plain_packet.PlainPacket.{PlainPacket}
 use Rattle.up_outside.specs.Counts.{CountsOnce}
 use Rattle.up_outside.specs.States.{SourceState, SinkState}
-use Rattle.up_strand.specs.Frames.{Unframes}
+use Rattle.up_strand.specs.Frames.{FramesStand}
 use Rattle.up_strand.specs.Gifts.{NodesFit}
 use Rattle.up_strand.specs.History.{History, head_flow, outcome_of_source, outcome_without}
 use Rattle.up_strand.specs.Nodes.{has_failed, is_outlet}
 use Rattle.up_strand.specs.OfGraph.{AreNodesOf}
-use Rattle.up_strand.specs.Reads.{WereRead}
+use Rattle.up_strand.specs.Reads.{EndsBy, WereRead}
 use Rattle.up_strand.specs.Rooms.{HasOnlyRoom}
 use Rattle.up_strand.specs.Stand.{NodesAre, Past, Stand}
 use Rattle.up_strand.specs.Tree.{IsSwept}
@@ -48,15 +47,15 @@ outcome_of_part Outlet short ended = outcome_without short ended
 outcome_of_part (Ended whole) short ended = outcome_without short ended
 
 -- its packets are blocks of a source, or those of its frames
-abbrev pub cuts_blocks : {S : Type 0} → Intake S → Bool
-cuts_blocks (FromSource source block limit left) = true
-cuts_blocks (FromFrames frames) = false
-cuts_blocks FromLane = false
+abbrev pub takes_blocks : {S : Type 0} → Intake S → Bool
+takes_blocks (FromSource source block limit left) = true
+takes_blocks (FromFrames frames) = false
+takes_blocks FromLane = false
 
-abbrev pub unframes : {S : Type 0} → Intake S → Bool
-unframes (FromSource source block limit left) = false
-unframes (FromFrames frames) = true
-unframes FromLane = false
+abbrev pub takes_frames : {S : Type 0} → Intake S → Bool
+takes_frames (FromSource source block limit left) = false
+takes_frames (FromFrames frames) = true
+takes_frames FromLane = false
 
 module _ {P S K : Type 0} (strand : Strand P S K) where
   -- the place of the pipe at a node, or of the head of the lane that ends there
@@ -190,27 +189,25 @@ ended_at_fault (Some (outcomes.TooLong limit)) = false
 ended_at_fault (Some outcomes.Broken) = false
 ended_at_fault (Some outcomes.NoMemory) = false
 
--- the outcome is that of the bytes that were read: they show it whatever comes behind them, or nothing does. At most one byte past
--- the limit was read, and memory hadn't run out
-pub record IsTold (form : SourceForm) (limit : ℕ) (rest : Option (List ℕ)) (h : History)
+-- memory hadn't run out, and the source ended so by the bytes that were read, of which at most one is past
+-- its limit
+pub record EndedWithMemory (form : SourceForm) (limit : ℕ) (rest : Option (List ℕ)) (h : History)
     (outcome : Outcome) : Type 0 where
   pub long : h.short ≡ false
   pub few : length h.read ≤ limit + 1
-  pub is : source_outcome form limit h.read ≡ outcome
-  pub settled : (shown_by form limit h.read ≡ Some outcome) ⊎ IsAtEnd rest
+  pub by : EndsBy form limit rest h.read outcome
 
--- how a source of the form ended, by the bytes that were read. Where a cause of its own ended it, memory hadn't run out
+-- how a source of the form ended, by the bytes that were read
 abbrev pub EndsRightly : SourceForm → ℕ → Option (List ℕ) → History → Option Outcome → Type 0
 EndsRightly form limit rest h None = (h.short ≡ false) × (length h.read ≤ limit + 1)
-EndsRightly form limit rest h (Some outcomes.Whole) =
-    (source_outcome form limit h.read ≡ outcomes.Whole) × IsAtEnd rest
+EndsRightly form limit rest h (Some outcomes.Whole) = EndsBy form limit rest h.read outcomes.Whole
 EndsRightly form limit rest h (Some outcomes.ReadFault) =
-    (h.short ≡ false) × (shown_by form limit h.read ≡ None)
+    EndedWithMemory form limit rest h outcomes.ReadFault
 EndsRightly form limit rest h (Some outcomes.WriteFault) = ⊥
 EndsRightly form limit rest h (Some (outcomes.BadFrame offset)) =
-    IsTold form limit rest h (outcomes.BadFrame offset)
+    EndedWithMemory form limit rest h (outcomes.BadFrame offset)
 EndsRightly form limit rest h (Some (outcomes.TooLong most)) =
-    IsTold form limit rest h (outcomes.TooLong most)
+    EndedWithMemory form limit rest h (outcomes.TooLong most)
 EndsRightly form limit rest h (Some outcomes.Broken) = ⊥
 EndsRightly form limit rest h (Some outcomes.NoMemory) =
     (h.short ≡ true) × (length h.read ≤ limit + 1)
@@ -239,10 +236,10 @@ pub record IsCutting (now : SourceState) (block limit left : ℕ) (h : History) 
   pub in_block : (0 < block) × (block ≤ MAX_PACKET)
 
 -- its frames were read, and while its flow goes on their packets were put out one after the other
-pub record IsUnframing {S : Type 0} (now : SourceState) (frames : FrameSource S) (h : History)
+pub record IsGivingFrames {S : Type 0} (now : SourceState) (frames : FrameSource S) (h : History)
     : Type 0 where
   pub reading : IsReading now Framed frames.limit h
-  pub stands : h.ended ≡ None → Unframes frames h.read h.fed
+  pub stands : h.ended ≡ None → FramesStand frames h.read h.fed
 
 -- a lane's flow ends whole or broken
 abbrev pub IsEndOfLane : Option Outcome → Type 0
@@ -267,7 +264,7 @@ abbrev pub IntakeStands : {S : Type 0} → (S → SourceState) → Intake S → 
 IntakeStands reads (FromSource source block limit left) h =
     IsCutting (reads source) block limit left h
 IntakeStands reads (FromFrames frames) h =
-    IsUnframing (reads frames.source) frames h
+    IsGivingFrames (reads frames.source) frames h
 IntakeStands reads FromLane h = IsBehindLane h
 
 -- the head was fed the packets that it had, or the first of them where memory ran out

@@ -1,12 +1,12 @@
 // A source of frames: what it gives is read a piece at a time, and put out a packet at a time.
-ghost use Rattle.std.specs.Prelude.{◌≡◌, ◌<◌, ◌≤◌, ◌^◌, ◌+◌, ◌++◌, List, ℕ, [], None, length, take, IfOk, OnOk};
+ghost use Rattle.std.specs.Prelude.{◌≡◌, ◌<◌, ◌≤◌, ◌^◌, ◌+◌, ◌++◌, List, ℕ, [], None, length, take, IfOk, IfSome, OnOk};
 ghost use Rattle.up_frame.specs.Readers.{StandsFor as IsReaderOf, bytes_fed};
 ghost use Rattle.up_model.specs.Outcomes.{outcome_at_end};
-ghost use Rattle.up_model.specs.Packet.{Flow};
+ghost use Rattle.up_model.specs.Packet.{Flow, IsLegal};
 ghost use Rattle.up_model.specs.declared.form.SourceForm.TheVariants as forms;
 ghost use Rattle.up_model.specs.declared.limits.TheConstants.{MAX_LIMIT};
 ghost use Rattle.up_shape.specs.Stores.{Stays};
-ghost use Rattle.up_strand.specs.Frames.{DrewForFrame, FrameFits, GaveAll, IsLegalFrame, IsNoPacket, ReadsOnce, Unframed, UnframedWhere, Unframes, UnframesSome, shows_where};
+ghost use Rattle.up_strand.specs.Frames.{GaveAll, ReadsOnce, GaveFrame, GaveFrameWhere, FramesStand, FramesStandForSome, packet_in, shows_where};
 
 use std::alloc::Global;
 use up_base::{Failed, NoMemory};
@@ -49,7 +49,7 @@ impl<S: Source> FrameSource<S> {
         requires limit { limit ≤ MAX_LIMIT }
         ensures source { result.source ≡ source }
         ensures limit { result.limit ≡ limit }
-        ensures stands { Unframes result [] [] }
+        ensures stands { FramesStand result [] [] }
     {
         FrameSource {
             source,
@@ -79,12 +79,13 @@ impl<S: Source> FrameSource<S> {
     /// The next packet, where one was read; else a piece more is read, until what was read shows how
     /// it ends.
     pub fn next<P: LocalPacket>(&mut self, s: &mut P::Store) -> NextFrame<P>
-        requires stands { UnframesSome self.old }
-        ensures unframed { Unframed P.plain S.state self.old self.new result }
-        ensures legal { IsLegalFrame P.plain result }
-        ensures family { FrameFits P.fits (P.Store.state s.old).family result }
-        ensures drawn { DrewForFrame P.plain (P.Store.state s.old).drawn
-            (P.Store.state s.new).drawn result }
+        requires stands { FramesStandForSome self.old }
+        ensures gave { GaveFrame P.plain S.state self.old self.new result }
+        ensures legal { IfSome (packet_in result) (λ p. IsLegal (P.plain p)) }
+        ensures family { IfSome (packet_in result)
+            (λ p. P.fits p (P.Store.state s.old).family) }
+        ensures drawn { IfSome (packet_in result) (λ p. 0 < length (P.plain p).bytes
+            → (P.Store.state s.old).drawn < (P.Store.state s.new).drawn) }
         ensures store { Stays (P.Store.state s.old) (P.Store.state s.new) }
     {
         match self.reader.next_packet(s) {
@@ -99,11 +100,11 @@ impl<S: Source> FrameSource<S> {
 
     /// Reads a piece, where all packets of what was read were put out and nothing is shown yet.
     fn read_on<P: LocalPacket>(&mut self) -> NextFrame<P>
-        requires stands { UnframesSome self.old }
+        requires stands { FramesStandForSome self.old }
         requires unshown { self.old.shown ≡ None }
-        ensures unframed { UnframedWhere (GaveAll self.old) P.plain S.state
+        ensures gave { GaveFrameWhere (GaveAll self.old) P.plain S.state
             self.old self.new result }
-        ensures read { IsNoPacket result }
+        ensures read { packet_in result ≡ None }
     {
         if make_room(&mut self.piece).is_err() {
             return NextFrame::NoMemory;
@@ -132,11 +133,11 @@ impl<S: Source> FrameSource<S> {
 
     /// Feeds the reader what was read, up to the limit, and keeps what all of it shows.
     fn take_in(&mut self, count: usize) -> Result<(), NoMemory>
-        requires stands { UnframesSome self.old }
+        requires stands { FramesStandForSome self.old }
         requires unshown { self.old.shown ≡ None }
         requires some { (count ≤ length self.old.piece.items) × (count ≤ self.old.left + 1) }
-        ensures took { (read : List ℕ) (put : Flow) → Unframes self.old read put → OnOk result
-            (Unframes self.new (read ++ take count self.old.piece.items) put) }
+        ensures took { (read : List ℕ) (put : Flow) → FramesStand self.old read put → OnOk result
+            (FramesStand self.new (read ++ take count self.old.piece.items) put) }
         ensures source { self.new.source ≡ self.old.source }
         ensures limit { self.new.limit ≡ self.old.limit }
     {

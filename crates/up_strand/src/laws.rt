@@ -10,6 +10,7 @@ ghost use Rattle.up_model.specs.Outcomes.{is_cause, own_outcome, settled_source_
 ghost use Rattle.up_model.specs.Packet.{Flow};
 ghost use Rattle.up_model.specs.Plans.{is_fed, outlets_of, strand_of};
 ghost use Rattle.up_model.specs.declared.form.SourceForm.{SourceForm as TheForm};
+ghost use Rattle.up_model.specs.declared.form.SourceForm.TheVariants as forms;
 ghost use Rattle.up_model.specs.declared.kind.Kind.TheVariants as kinds;
 ghost use Rattle.up_model.specs.declared.outcome.Outcome.{Outcome as TheOutcome};
 ghost use Rattle.up_model.specs.declared.pipe.Pipe.{Pipe as ThePipe};
@@ -23,16 +24,33 @@ use up_outside::{Sink, Source};
 use up_shape::LocalPacket;
 
 /// The head of a strand was fed the packets that it had; where memory ran out, the first of them.
-/// How a source ended is told by its bytes, and by whether a read failed; at most one byte past its
-/// limit was read, and none where a read failed, which is told only where the bytes show no other
-/// cause. While a source goes on it put out packets that its bytes hold whatever comes behind them,
-/// no more than bytes. Where a source ended by a cause of its own, memory hadn't run out.
+/// While a source goes on, a raw one put out all blocks that its bytes fill, and one of frames the
+/// first of the packets that they hold. No source put out more packets than it gave bytes.
 pub fn a_head_is_fed_what_it_has<P: LocalPacket, S: Source, K: Sink>()
     ensures first { (strand : TheStrand P S K) (h : History)
         → StandsFor P.plain S.state K.state strand h → IsPrefix h.fed (head_flow h) }
     ensures all { (strand : TheStrand P S K) (h : History)
         → StandsFor P.plain S.state K.state strand h
         → h.short ≡ false → h.fed ≡ head_flow h }
+    ensures settled { (strand : TheStrand P S K) (h : History) (pipe : ThePipe)
+        → StandsFor P.plain S.state K.state strand h → slice_get h.pipes h.head ≡ Some pipe
+        → is_source pipe.kind ≡ true → h.ended ≡ None
+        → IsPrefix h.fed (settled_source_flow pipe.kind h.read) }
+    ensures blocks { (strand : TheStrand P S K) (h : History) (pipe : ThePipe)
+        (path : List ℕ) (block limit : ℕ)
+        → StandsFor P.plain S.state K.state strand h → slice_get h.pipes h.head ≡ Some pipe
+        → pipe.kind ≡ kinds.Source path (forms.Raw block) limit → h.ended ≡ None
+        → h.fed ≡ settled_source_flow pipe.kind h.read }
+    ensures few { (strand : TheStrand P S K) (h : History) (pipe : ThePipe)
+        → StandsFor P.plain S.state K.state strand h → slice_get h.pipes h.head ≡ Some pipe
+        → is_source pipe.kind ≡ true → length h.fed ≤ length h.read }
+{}
+
+/// Where memory didn't run out, how a source ended is told by its bytes, and by whether a read
+/// failed, which is told only where the bytes show no cause of their own. At most one byte past its
+/// limit was read, and none where a read failed. Where a source ended by a cause of its own, memory
+/// hadn't run out.
+pub fn a_source_ends_by_its_bytes<P: LocalPacket, S: Source, K: Sink>()
     ensures ended { (strand : TheStrand P S K) (h : History) (pipe : ThePipe)
         (outcome : TheOutcome) → StandsFor P.plain S.state K.state strand h
         → h.short ≡ false → slice_get h.pipes h.head ≡ Some pipe
@@ -50,14 +68,6 @@ pub fn a_head_is_fed_what_it_has<P: LocalPacket, S: Source, K: Sink>()
     ensures unshown { (strand : TheStrand P S K) (h : History) (pipe : ThePipe)
         → StandsFor P.plain S.state K.state strand h → slice_get h.pipes h.head ≡ Some pipe
         → ended_at_fault h.ended ≡ true → shown_of pipe.kind h.read ≡ None }
-    ensures settled { (strand : TheStrand P S K) (h : History) (pipe : ThePipe)
-        → StandsFor P.plain S.state K.state strand h → slice_get h.pipes h.head ≡ Some pipe
-        → is_source pipe.kind ≡ true → h.ended ≡ None
-        → IsPrefix h.fed (settled_source_flow pipe.kind h.read) }
-    ensures few { (strand : TheStrand P S K) (h : History) (pipe : ThePipe)
-        (path : List ℕ) (form : TheForm) (limit : ℕ)
-        → StandsFor P.plain S.state K.state strand h → slice_get h.pipes h.head ≡ Some pipe
-        → pipe.kind ≡ kinds.Source path form limit → length h.fed ≤ limit + 1 }
     ensures long { (strand : TheStrand P S K) (h : History) (pipe : ThePipe)
         (outcome : TheOutcome) → StandsFor P.plain S.state K.state strand h
         → slice_get h.pipes h.head ≡ Some pipe → is_source pipe.kind ≡ true

@@ -27,8 +27,8 @@ mod values;
 mod want;
 
 pub use laws::{
-    a_head_is_fed_what_it_has, a_strand_asks_by_what_it_did, a_strand_is_fed_at_its_head,
-    lanes_are_given_the_flow,
+    a_head_is_fed_what_it_has, a_source_ends_by_its_bytes, a_strand_asks_by_what_it_did,
+    a_strand_is_fed_at_its_head, lanes_are_given_the_flow,
 };
 pub use reached::{nodes_come_to_a_first_part, nodes_come_to_the_meaning};
 pub use strand::Strand;

@@ -7,7 +7,7 @@ ghost use Rattle.up_shape.specs.Stores.{Stays};
 ghost use Rattle.up_strand.specs.History.{History, told_at};
 ghost use Rattle.up_strand.specs.Steps.{IsGoing, OnceLooked, WentOn, ended_where, taken_where};
 ghost use Rattle.up_strand.specs.StrandCalls.{CameOut, IsLegalItem, ItemFits, SteppedItem, SteppedRead, WentOut, gave_out, lane_given};
-ghost use Rattle.up_strand.specs.Strands.{StandsFor, StandsForSome, StrandFits, cuts_blocks, node_of, unframes, want_of};
+ghost use Rattle.up_strand.specs.Strands.{StandsFor, StandsForSome, StrandFits, takes_blocks, node_of, takes_frames, want_of};
 ghost use Rattle.up_strand.specs.declared.want.Want.TheVariants as wants;
 
 use crate::closing::Told;
@@ -105,8 +105,9 @@ impl<P: LocalPacket, S: Source, K: Sink> Strand<P, S, K> {
         self.ready = at;
     }
 
-    /// Reads a packet's worth of its source, and feeds it: bytes that don't fill a block are fed at
-    /// the end of the source alone.
+    /// Takes what its source gives next. A raw source gives a block, which is fed; bytes that don't
+    /// fill one are fed at the end of the source alone. A source of frames gives the packet of its
+    /// next frame, which is fed, or else a piece of at most 65,536 bytes.
     pub fn step_read(&mut self, s: &mut P::Store)
         requires stands { StandsForSome P.plain S.state K.state self.old }
         requires want { want_of self.old ≡ wants.Read }
@@ -146,7 +147,7 @@ impl<P: LocalPacket, S: Source, K: Sink> Strand<P, S, K> {
     fn take_block(&mut self, s: &mut P::Store)
         requires stands { StandsForSome P.plain S.state K.state self.old }
         requires want { want_of self.old ≡ wants.Read }
-        requires raw { cuts_blocks self.old.intake ≡ true }
+        requires raw { takes_blocks self.old.intake ≡ true }
         requires family { StrandFits self.old P.fits (P.Store.state s.old).family }
         ensures stepped { OnceLooked self.new (λ strand. (h : History)
             → StandsFor P.plain S.state K.state self.old h
@@ -185,7 +186,7 @@ impl<P: LocalPacket, S: Source, K: Sink> Strand<P, S, K> {
     fn take_frame(&mut self, s: &mut P::Store)
         requires stands { StandsForSome P.plain S.state K.state self.old }
         requires want { want_of self.old ≡ wants.Read }
-        requires framed { unframes self.old.intake ≡ true }
+        requires framed { takes_frames self.old.intake ≡ true }
         requires family { StrandFits self.old P.fits (P.Store.state s.old).family }
         ensures stepped { OnceLooked self.new (λ strand. (h : History)
             → StandsFor P.plain S.state K.state self.old h

@@ -16,6 +16,17 @@ use up_model::{Kind, MAX_ATTRS, MAX_PACKET, Opt, SinkForm, Value, ValueView, pac
 use up_outside::{Depot, DepotCall, MemDepot, MemSink};
 use up_shape::{Command, ControlRefused, LocalPacket, Module, Reply, VecPacket, VecStore};
 
+/// Each option.
+const OPTIONS: [Opt; 7] = [
+    Opt::Mtu,
+    Opt::Align,
+    Opt::Offset,
+    Opt::Low,
+    Opt::High,
+    Opt::By,
+    Opt::Sync,
+];
+
 /// A packet of these bytes, without attributes.
 fn fresh(rt: &impl Abort, bytes: &[u8], s: &mut VecStore) -> VecPacket
     ensures { IsLegal (plain_of result) }
@@ -175,17 +186,26 @@ fn a_framed_sink_that_failed_in_a_frame_is_written_no_more(rt: HostRuntime) {
     assert_failed(&rt, node, &[0x46, 1, 0, 0, 0, 0, 0, 2]);
 }
 
-/// What the module of a kind, which was fed nothing, answers when it is asked for an option.
-fn option_of(
-    rt: &impl Abort,
-    mut m: AnyModule,
-    option: Opt,
-    s: &mut VecStore,
-) -> Result<Reply, ControlRefused> {
+/// What the module of a kind whose fields are within their bounds answers for an option: its value,
+/// or none where it hasn't the option.
+fn assert_option(rt: &impl Abort, alloc: Global, kind: &Kind, option: Opt, value: Option<i128>) {
+    let s = &mut VecStore::new(alloc);
+    let mut m = module_of(rt, alloc, kind);
     assert!(rt; <AnyModule as Module<VecPacket>>::fresh(&m));
     let answer = <AnyModule as Module<VecPacket>>::control(&mut m, Command::Get(option));
     <AnyModule as Module<VecPacket>>::give_up(m, s);
-    answer
+    let wanted = value.map_or(
+        Err(ControlRefused::Unhandled),
+        |value| Ok(Reply::Value(value)),
+    );
+    assert_eq!(rt; answer, wanted);
+}
+
+/// The module of a kind has none of the options.
+fn assert_no_option(rt: &impl Abort, alloc: Global, kind: &Kind) {
+    for option in OPTIONS {
+        assert_option(rt, alloc, kind, option, None);
+    }
 }
 
 /// The module of a kind whose fields are within their bounds.
@@ -196,56 +216,61 @@ fn module_of(rt: &impl Abort, alloc: Global, kind: &Kind) -> AnyModule {
 }
 
 #[test]
-fn a_module_has_the_options_of_its_kind(rt: HostRuntime) -> Result<(), Fail> {
+fn a_module_without_options_has_none(rt: HostRuntime) -> Result<(), Fail> {
     let alloc = rt.alloc();
-    let s = &mut VecStore::new(alloc);
     let attr = AttrName::read(b"key")?;
     let value = Value::Words(Text::from_str(alloc, "film")?);
-    let (low, high) = (7, u64::MAX);
-    for (kind, option, answer) in [
-        (Kind::Idem, Opt::Offset, None),
-        (Kind::Null, Opt::Offset, None),
-        (Kind::Dup, Opt::Offset, None),
-        (Kind::Skip { bytes: 0 }, Opt::Offset, Some(0)),
-        (
-            Kind::Skip { bytes: 1_048_576 },
-            Opt::Offset,
-            Some(1_048_576),
-        ),
-        (Kind::SetAttr { attr, value }, Opt::Offset, None),
-        (Kind::DelAttr { attr }, Opt::Offset, None),
-        (Kind::MatchAttr { attr, low, high }, Opt::Low, Some(7)),
-        (
-            Kind::MatchAttr { attr, low, high },
-            Opt::High,
-            Some(18_446_744_073_709_551_615),
-        ),
-        (
-            Kind::MatchAttr {
-                attr,
-                low: 7,
-                high: 7,
-            },
-            Opt::High,
-            Some(7),
-        ),
-        (
-            Kind::Delay { by: i64::MIN },
-            Opt::By,
-            Some(-9_223_372_036_854_775_808),
-        ),
-        (
-            Kind::Delay { by: i64::MAX },
-            Opt::By,
-            Some(9_223_372_036_854_775_807),
-        ),
+    for kind in [
+        Kind::Idem,
+        Kind::Null,
+        Kind::Dup,
+        Kind::SetAttr { attr, value },
+        Kind::DelAttr { attr },
     ] {
-        let m = module_of(&rt, alloc, &kind);
-        let wanted = answer.map_or(
-            Err(ControlRefused::Unhandled),
-            |value| Ok(Reply::Value(value)),
-        );
-        assert_eq!(rt; option_of(&rt, m, option, s), wanted);
+        assert_no_option(&rt, alloc, &kind);
     }
     Ok(())
+}
+
+#[test]
+fn a_module_that_skips_has_an_offset(rt: HostRuntime) {
+    let alloc = rt.alloc();
+    assert_option(&rt, alloc, &Kind::Skip { bytes: 0 }, Opt::Offset, Some(0));
+    assert_option(
+        &rt,
+        alloc,
+        &Kind::Skip { bytes: 1_048_576 },
+        Opt::Offset,
+        Some(1_048_576),
+    );
+}
+
+#[test]
+fn a_module_that_matches_has_two_bounds(rt: HostRuntime) -> Result<(), Fail> {
+    let alloc = rt.alloc();
+    let attr = AttrName::read(b"key")?;
+    let (low, high) = (7, u64::MAX);
+    let wide = Kind::MatchAttr { attr, low, high };
+    assert_option(&rt, alloc, &wide, Opt::Low, Some(7));
+    assert_option(
+        &rt,
+        alloc,
+        &wide,
+        Opt::High,
+        Some(18_446_744_073_709_551_615),
+    );
+    let (low, high) = (7, 7);
+    let narrow = Kind::MatchAttr { attr, low, high };
+    assert_option(&rt, alloc, &narrow, Opt::Low, Some(7));
+    assert_option(&rt, alloc, &narrow, Opt::High, Some(7));
+    Ok(())
+}
+
+#[test]
+fn a_module_that_delays_has_a_shift(rt: HostRuntime) {
+    let alloc = rt.alloc();
+    let back = Kind::Delay { by: i64::MIN };
+    assert_option(&rt, alloc, &back, Opt::By, Some(-9_223_372_036_854_775_808));
+    let forth = Kind::Delay { by: i64::MAX };
+    assert_option(&rt, alloc, &forth, Opt::By, Some(9_223_372_036_854_775_807));
 }

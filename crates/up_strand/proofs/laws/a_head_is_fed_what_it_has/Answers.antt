@@ -1,5 +1,4 @@
-use Rattle.up_strand.proofs.HeadFlows.{few_read_of_head, fewer_read_of_head, long_of_head, source_ended, unshown_at_fault}
-use Rattle.up_strand.proofs.HeadPackets.{few_fed, settled_first}
+use Rattle.up_strand.proofs.HeadPackets.{blocks_all, few_fed, settled_first}
 use Rattle.up_strand.proofs.laws.a_head_is_fed_what_it_has.Goals as goal
 
 pub returns-clause-first : goal.returns-clause-first
@@ -8,30 +7,14 @@ returns-clause-first g c strand h stands = stands.fed.first
 pub returns-clause-all : goal.returns-clause-all
 returns-clause-all g c strand h stands long = stands.fed.all long
 
-pub returns-clause-ended : goal.returns-clause-ended
-returns-clause-ended g c strand h pipe outcome stands long there source ended =
-    source_ended g.S.Source.state strand.intake h pipe outcome stands.intake long there source ended
-
-pub returns-clause-bounded : goal.returns-clause-bounded
-returns-clause-bounded g c strand h pipe path form limit stands there kind =
-    few_read_of_head g.S.Source.state strand.intake h pipe path form limit stands.intake there kind
-
-pub returns-clause-within : goal.returns-clause-within
-returns-clause-within g c strand h pipe path form limit stands there kind fault =
-    fewer_read_of_head g.S.Source.state strand.intake h pipe path form limit stands.intake there kind fault
-
-pub returns-clause-long : goal.returns-clause-long
-returns-clause-long g c strand h pipe outcome stands there source ended cause =
-    long_of_head g.S.Source.state strand.intake h pipe outcome stands.intake there source ended cause
-
-pub returns-clause-unshown : goal.returns-clause-unshown
-returns-clause-unshown g c strand h pipe stands there fault =
-    unshown_at_fault g.S.Source.state strand.intake h pipe stands.intake there fault
-
 pub returns-clause-settled : goal.returns-clause-settled
 returns-clause-settled g c strand h pipe stands there source going =
     settled_first g.S.Source.state strand.intake h pipe stands.intake there source going
 
+pub returns-clause-blocks : goal.returns-clause-blocks
+returns-clause-blocks g c strand h pipe path block limit stands there kind going =
+    blocks_all g.S.Source.state strand.intake h pipe path block limit stands.intake there kind going
+
 pub returns-clause-few : goal.returns-clause-few
-returns-clause-few g c strand h pipe path form limit stands there kind =
-    few_fed g.S.Source.state strand.intake h pipe path form limit stands.built.well stands.intake stands.fed.first there kind
+returns-clause-few g c strand h pipe stands there source =
+    few_fed g.S.Source.state strand.intake h pipe stands.built.well stands.intake stands.fed.first there source

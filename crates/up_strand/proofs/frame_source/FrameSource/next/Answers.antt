@@ -4,8 +4,8 @@ use Rattle.up_outside.specs.Counts.{CountsOnce}
 use Rattle.up_strand.proofs.FrameSteps.{gave_none, gave_packet, no_faults, none_read, shown_end, shown_no_fault}
 use Rattle.up_strand.proofs.frame_source.FrameSource.next.Goals as goal
 
-pub returns-in-Ok-Some-clause-unframed : goal.returns-in-Ok-Some-clause-unframed
-returns-in-Ok-Some-clause-unframed g c =
+pub returns-in-Ok-Some-clause-gave : goal.returns-in-Ok-Some-clause-gave
+returns-in-Ok-Some-clause-gave g c =
     let gave : c.next_packet.result ≡ Ok (Some c.in-Ok-Some.p) = cc in
     record {
       taken = _;
@@ -16,8 +16,8 @@ returns-in-Ok-Some-clause-unframed g c =
       are = λ read put stood. (
         refl,
         record {
-          unframed = gave_packet c.args.self.now.reader c.next_packet.new.self _ (g.P.LocalPacket.plain c.in-Ok-Some.p)
-              (ap (plain_answer g.P.LocalPacket.plain) gave) c.next_packet.ensures.given _ put stood.unframed;
+          reader = gave_packet c.args.self.now.reader c.next_packet.new.self _ (g.P.LocalPacket.plain c.in-Ok-Some.p)
+              (ap (plain_answer g.P.LocalPacket.plain) gave) c.next_packet.ensures.given _ put stood.reader;
           known = stood.known;
           rest = stood.rest;
           few = stood.few;
@@ -26,8 +26,8 @@ returns-in-Ok-Some-clause-unframed g c =
       );
     }
 
-pub returns-in-Some-clause-unframed : goal.returns-in-Some-clause-unframed
-returns-in-Some-clause-unframed g c =
+pub returns-in-Some-clause-gave : goal.returns-in-Some-clause-gave
+returns-in-Some-clause-gave g c =
     let none : c.next_packet.result ≡ Ok None = cc in
     let some = c.requires.stands in
     let fault = shown_no_fault g.row.P.Denot c.args.self.now.limit some.0 c.in-Some.outcome (sym some.1.1.known ∙ c.in-Some.is) in
@@ -38,15 +38,15 @@ returns-in-Some-clause-unframed g c =
       faults = subst (λ fault. CountsOnce fault (g.S.Source.state c.args.self.now.source).faults (g.S.Source.state c.args.self.now.source).faults) (sym fault) (no_faults (g.S.Source.state c.args.self.now.source).faults);
       limit = refl;
       are = λ read put stood.
-          let gave = gave_none c.args.self.now.reader c.next_packet.new.self _ (ap (plain_answer g.P.LocalPacket.plain) none) c.next_packet.ensures.given _ put stood.unframed in
+          let gave = gave_none c.args.self.now.reader c.next_packet.new.self _ (ap (plain_answer g.P.LocalPacket.plain) none) c.next_packet.ensures.given _ put stood.reader in
           let end = shown_end c.args.self.now.limit _ read put c.in-Some.outcome (sym stood.known ∙ c.in-Some.is) gave.1 in
           (refl, end.0, end.1);
     }
 
-pub returns-in-None-clause-unframed : goal.returns-in-None-clause-unframed
-returns-in-None-clause-unframed g c =
+pub returns-in-None-clause-gave : goal.returns-in-None-clause-gave
+returns-in-None-clause-gave g c =
     let none : c.next_packet.result ≡ Ok None = cc in
-    let on = c.read_on.ensures.unframed in
+    let on = c.read_on.ensures.gave in
     record {
       taken = on.taken;
       took = on.took;
@@ -54,6 +54,6 @@ returns-in-None-clause-unframed g c =
       faults = on.faults;
       limit = on.limit;
       are = λ read put stood.
-          let gave = gave_none c.args.self.now.reader c.next_packet.new.self _ (ap (plain_answer g.P.LocalPacket.plain) none) c.next_packet.ensures.given _ put stood.unframed in
-          on.are read put (record { unframed = gave.0; known = stood.known; rest = stood.rest; few = stood.few; in_limit = stood.in_limit }, gave.1);
+          let gave = gave_none c.args.self.now.reader c.next_packet.new.self _ (ap (plain_answer g.P.LocalPacket.plain) none) c.next_packet.ensures.given _ put stood.reader in
+          on.are read put (record { reader = gave.0; known = stood.known; rest = stood.rest; few = stood.few; in_limit = stood.in_limit }, gave.1);
     }

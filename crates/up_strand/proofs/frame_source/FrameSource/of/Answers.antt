@@ -1,10 +1,10 @@
 use Rattle.std.proofs.Common.{None, refl}
-use Rattle.up_strand.proofs.FrameSteps.{begins_unframing}
+use Rattle.up_strand.proofs.FrameSteps.{begins_giving}
 use Rattle.up_strand.proofs.frame_source.FrameSource.of.Goals as goal
 
 pub returns-clause-stands : goal.returns-clause-stands
 returns-clause-stands g c =
-    begins_unframing (record {
+    begins_giving (record {
       source = c.args.source;
       reader = c.new.result;
       piece = c.new-2.result;
