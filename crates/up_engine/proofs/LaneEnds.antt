@@ -4,21 +4,13 @@ use Rattle.up_engine.proofs.ThroughLanes.{after_packets, came_all, closing}
 use Rattle.up_engine.specs.Joins.{IsJoined, PlainItem, end_come}
 use Rattle.up_model.specs.Packet.{Flow}
 use Rattle.up_model.specs.declared.outcome.Outcome.{Outcome}
-use Rattle.up_model.specs.declared.outcome.Outcome.TheVariants as outcomes
 use Rattle.up_queue.specs.declared.end_kind.EndKind.{EndKind}
-use Rattle.up_queue.specs.declared.end_kind.EndKind.TheVariants as ends
 use Rattle.up_queue.specs.declared.item.Item.TheVariants.{Packet, End}
 use Rattle.up_strand.specs.History.{History, end_by}
 
 end_of : (ended : Option Outcome) → is_some ended ≡ true → (kind : EndKind) × (end_come ended ≡ End kind ∷ [])
 end_of None some = absurd (cc)
-end_of (Some outcomes.Whole) some = (ends.Whole, refl)
-end_of (Some outcomes.ReadFault) some = (ends.Broken, refl)
-end_of (Some outcomes.WriteFault) some = (ends.Broken, refl)
-end_of (Some (outcomes.BadFrame offset)) some = (ends.Broken, refl)
-end_of (Some (outcomes.TooLong limit)) some = (ends.Broken, refl)
-end_of (Some outcomes.Broken) some = (ends.Broken, refl)
-end_of (Some outcomes.NoMemory) some = (ends.Broken, refl)
+end_of (Some outcome) some = (end_by false (Some outcome), refl)
 
 -- nothing waits behind an end
 last_is_end : (came sent : Flow) (rest : List PlainItem) (closed : Bool) (kind other : EndKind)

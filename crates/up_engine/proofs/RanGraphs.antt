@@ -1,8 +1,9 @@
 -- A run of a graph, by where its opening stopped.
 use Rattle.std.specs.Prelude.{OnOk}
-use Rattle.std.proofs.Common.{◌≡◌, ℕ, ◌<◌, List, length, set, drop, get_or, replicate, true, false, Some, IfSome, Result, Ok, Err, slice_get, refl, sym, ap, ◌∙◌, subst, arith, append-nil, inl, inr}
+use Rattle.std.proofs.Common.{◌≡◌, ℕ, ◌<◌, List, length, set, drop, get_or, replicate, true, false, Option, Some, Result, Ok, Err, slice_get, refl, sym, ap, ◌∙◌, subst, arith, append-nil, inl, inr}
+use Rattle.std.specs.Option.{option_map_or}
 use Rattle.std.proofs.lemmas.List.{get_or-replicate, length-replicate}
-use Rattle.std.proofs.lemmas.Option.{same_Some, slice_get-get_or, slice_get_within}
+use Rattle.std.proofs.lemmas.Option.{same_Some, slice_get-get_or, slice_get_cases, slice_get_within}
 use Rattle.up_base.specs.declared.refusal.NoMemory.{NoMemory as NoMemoryFound}
 use Rattle.up_engine.proofs.ClosedWays.{ways_closed}
 use Rattle.up_engine.proofs.HeldAfter.{others_closed}
@@ -14,9 +15,10 @@ use Rattle.up_engine.proofs.StoppedAtRefusal.{stopped_there}
 use Rattle.up_engine.proofs.StoppedShort.{stopped_short}
 use Rattle.up_engine.proofs.WentThrough.{went_through}
 use Rattle.up_engine.specs.Carried.{CarriedBy, CarriedShort}
+use Rattle.up_engine.specs.Engine.{CanClose, OpenedIn, TakesTurns, told_opened}
 use Rattle.up_engine.specs.Entries.{KeepsOtherPaths, KeepsPathsOf, path_places}
-use Rattle.up_engine.specs.Objects.{AreOpen, AreThere, Closes, Opens, object_at}
-use Rattle.up_engine.specs.Rooms.{AreClosed, answer_of}
+use Rattle.up_engine.specs.Objects.{AreThere, Closes, Opens, object_at}
+use Rattle.up_engine.specs.Rooms.{AreClosed, AreMadeFor, answer_of}
 use Rattle.up_engine.specs.Runs.{RanGraph, RanTo, Ways, fault_of}
 use Rattle.up_engine.specs.declared.object.Object.{Object}
 use Rattle.up_engine.specs.declared.object.Object.TheVariants as objects
@@ -31,7 +33,6 @@ use Rattle.up_model.specs.declared.outcome.Outcome.TheVariants as outcomes
 use Rattle.up_model.specs.declared.pipe.Pipe.{Pipe}
 use Rattle.up_model.specs.declared.tally.Tally.{Tally}
 use Rattle.up_outside.specs.States.{DepotState, SourceState, SinkState}
-use Rattle.up_outside.specs.declared.asked.Entry.{Entry}
 use Rattle.up_shape.specs.Stores.{StoreState}
 
 -- no open was asked for
@@ -53,11 +54,6 @@ none_asked pipes depot store = record {
 }
 
 module _ {S K : Type 0} (reads : S → SourceState) (writes : K → SinkState) (pipes : List Pipe) where
-  -- what can be closed: each that is open has its entry
-  abbrev pub CanEnd : DepotState → List (Object S K) → Type 0
-  CanEnd depot table = (count : ℕ) × AreThere reads writes pipes count table
-      × IfSome depot.asked (λ asked. (first : List Entry) × AreOpen reads writes pipes count table first asked)
-
   -- before the first open nothing stands anywhere
   pub none_opened : (table : List (Object S K)) → table ≡ replicate (length pipes) objects.None → AreThere reads writes pipes 0 table
   none_opened table none = record {
@@ -84,22 +80,22 @@ module _ {S K : Type 0} (reads : S → SourceState) (writes : K → SinkState) (
 
     -- what was opened can be closed, whatever was carried
     can_end : (opening : Opening) (opens : Opens reads writes pipes old mid opened opening) (table : List (Object S K))
-        → LeftOpen reads writes pipes opens.count opened table → CanEnd mid table
+        → LeftOpen reads writes pipes opens.count opened table → CanClose reads writes pipes mid table
     can_end opening opens table left = (
       opens.count,
       left.there,
       can_close reads writes pipes old mid opened table opening opens (place_same reads writes pipes opens.count opened table opens.there left),
     )
 
-    pub can_end_alone : (opening : Opening) (table : List (Object S K)) → table ≡ opened → Opens reads writes pipes old mid opened opening → CanEnd mid table
+    pub can_end_alone : (opening : Opening) (table : List (Object S K)) → table ≡ opened → Opens reads writes pipes old mid opened opening → CanClose reads writes pipes mid table
     can_end_alone opening table same opens =
-        subst (CanEnd mid) (sym same) (can_end opening opens opened (left_alone reads writes pipes opens.count opened opens.there))
+        subst (CanClose reads writes pipes mid) (sym same) (can_end opening opens opened (left_alone reads writes pipes opens.count opened opens.there))
 
     pub can_end_carried : (before after table : List (Object S K)) → before ≡ opened → table ≡ after → Opens reads writes pipes old mid opened All
-        → CarriedShort reads writes pipes before after → CanEnd mid table
+        → CarriedShort reads writes pipes before after → CanClose reads writes pipes mid table
     can_end_carried before after table same kept opens short =
         let carried = subst (λ (l : List (Object S K)). CarriedShort reads writes pipes l after) same short in
-        subst (CanEnd mid) (sym kept) (can_end All opens after (left_carried reads writes pipes opens.count opened after opens.stops carried))
+        subst (CanClose reads writes pipes mid) (sym kept) (can_end All opens after (left_carried reads writes pipes opens.count opened after opens.stops carried))
 
   module _ {F : Type 0} (well : IsWellFormed pipes) (old mid new : DepotState) (opened : List (Object S K)) (rooms closed : Rooms S K)
       (store_before store_after : StoreState F) where
@@ -177,3 +173,63 @@ module _ {S K : Type 0} (reads : S → SourceState) (writes : K → SinkState) (
           to = told (Err (record {})) (sym ended.sums)
               (stopped_short reads writes pipes old mid new NoMemory opened opened closed.table.items rooms.results.outcomes.items closed.results.outcomes.items opens left closes refl well);
         }
+
+  -- the three parts of a run, one after the other
+  module _ {F : Type 0} (old mid : DepotState) (opened rooms : Rooms S K) (store_before store_after : StoreState F) where
+    -- what was opened can be closed once the turns were taken
+    pub can_close_turned : (opening : Opening) (carried : Result (Unit {0}) NoMemoryFound) → OpenedIn reads writes pipes old mid opened opening
+        → TakesTurns reads writes pipes opened rooms store_before store_after opening carried → CanClose reads writes pipes mid rooms.table.items
+    can_close_turned All carried is turned =
+        can_end_carried old mid opened.table.items opened.table.items rooms.table.items rooms.table.items refl refl is.opens turned.short
+    can_close_turned (Refused place) carried is turned =
+        can_end_alone old mid opened.table.items (Refused place) rooms.table.items (ap (λ (r : Rooms S K). r.table.items) turned.0.rooms) is.opens
+    can_close_turned NoMemory carried is turned =
+        can_end_alone old mid opened.table.items NoMemory rooms.table.items (ap (λ (r : Rooms S K). r.table.items) turned.0.rooms) is.opens
+
+    module _ (well : IsWellFormed pipes) (made : AreMadeFor pipes rooms) (new : DepotState) (closed : Rooms S K)
+        (closes : (count : ℕ) → AreThere reads writes pipes count rooms.table.items → AreClosed reads writes pipes count rooms closed mid new) where
+      pub ran_graph : (opening : Opening) (carried : Result (Unit {0}) NoMemoryFound) → OpenedIn reads writes pipes old mid opened opening
+          → TakesTurns reads writes pipes opened rooms store_before store_after opening carried
+          → RanGraph pipes old new store_before store_after (answer_of carried closed.results.outcomes.items closed.results.tallies.items)
+      ran_graph All carried is turned =
+          ran_all well old mid new opened.table.items rooms closed store_before store_after opened.table.items rooms.table.items carried refl refl
+          is.opens turned.short turned.through made.ends made.sums closes
+      ran_graph (Refused place) (Err short) is turned = absurd (let none = turned.1 in cc)
+      ran_graph (Refused place) (Ok done) is turned =
+          let within = refused_within old mid opened.table.items place is.opens in
+          let same = turned.0.rooms in
+          elim (slice_get_cases pipes place).1 [
+            | inl stands ↦
+                let told = ap (λ (p : Option Pipe). set (replicate (length pipes) outcomes.Broken) place (option_map_or (λ (pipe : Pipe). fault_of pipe.kind) p outcomes.Broken)) stands.2 in
+                ran_refused well old mid new opened.table.items rooms closed store_before store_after place stands.0 stands.2
+                (ap (λ (r : Rooms S K). r.table.items) same) is.opens (ap (λ (r : Rooms S K). r.results.outcomes.items) same ∙ is.outcomes ∙ told)
+                (ap (λ (r : Rooms S K). r.results.tallies.items) same ∙ is.tallies) closes
+            | inr past ↦ absurd (omega (arith, within, past.0))
+          ]
+      ran_graph NoMemory (Ok done) is turned = absurd (let none = turned.1 in cc)
+      ran_graph NoMemory (Err short) is turned =
+          ran_unopened well old mid new opened.table.items rooms closed store_before store_after
+          (ap (λ (r : Rooms S K). r.table.items) turned.0.rooms) is.opens closes
+
+  -- what an opening told
+  pub opened_in : (old mid : DepotState) (rooms : Rooms S K) (opened : List (Object S K)) (opening is : Opening) → opening ≡ is → rooms.table.items ≡ opened
+      → Opens reads writes pipes old mid opened opening → rooms.results.outcomes.items ≡ told_opened pipes is
+      → rooms.results.tallies.items ≡ replicate (length pipes) nothing → OpenedIn reads writes pipes old mid rooms opening
+  opened_in old mid rooms opened opening is same stands opens told none = record {
+    opens = subst (λ (l : List (Object S K)). Opens reads writes pipes old mid l opening) (sym stands) opens;
+    outcomes = told ∙ ap (told_opened pipes) (sym same);
+    tallies = none;
+  }
+
+  -- what the turns carried where all paths were opened
+  pub ran_strands : {F : Type 0} (before after : Rooms S K) (store_before store_after : StoreState F) (was now : List (Object S K))
+      (carried : Result (Unit {0}) NoMemoryFound) (opening : Opening) → opening ≡ All → was ≡ before.table.items → after.table.items ≡ now
+      → OnOk carried ((ways : Ways) × CarriedBy reads writes pipes was now ways after.results store_before store_after)
+      → CarriedShort reads writes pipes was now → TakesTurns reads writes pipes before after store_before store_after opening carried
+  ran_strands before after store_before store_after was now carried opening is same kept by short =
+      subst (λ (o : Opening). TakesTurns reads writes pipes before after store_before store_after o carried) (sym is) (record {
+        through = subst (λ (l : List (Object S K)). OnOk carried ((ways : Ways) × CarriedBy reads writes pipes l after.table.items ways after.results store_before store_after)) same
+            (subst (λ (l : List (Object S K)). OnOk carried ((ways : Ways) × CarriedBy reads writes pipes was l ways after.results store_before store_after)) (sym kept) by);
+        short = subst (λ (l : List (Object S K)). CarriedShort reads writes pipes l after.table.items) same
+            (subst (CarriedShort reads writes pipes was) (sym kept) short);
+      })

@@ -1,13 +1,11 @@
 -- Strands joined by lanes: what was taken out of one strand for a lane, and what came through it at
 -- the head of another. Nothing here says on how many threads they run.
-use Rattle.std.specs.Prelude.{◌≡◌, ℕ, ◌++◌, List, [], ◌∷◌, map, Option, Some, None, option_and_then, if◌then◌else◌}
+use Rattle.std.specs.Prelude.{◌≡◌, ℕ, ◌++◌, List, [], ◌∷◌, map, Option, Some, None, option_and_then, false, if◌then◌else◌}
 use Rattle.up_model.specs.Inputs.{input_at}
 use Rattle.up_model.specs.Plans.{head_of}
 use Rattle.up_model.specs.declared.outcome.Outcome.{Outcome}
-use Rattle.up_model.specs.declared.outcome.Outcome.TheVariants as outcomes
 use Rattle.up_model.specs.declared.pipe.Pipe.{Pipe}
 use Rattle.up_model.specs.declared.plain_packet.PlainPacket.{PlainPacket}
-use Rattle.up_queue.specs.declared.end_kind.EndKind.TheVariants as ends
 use Rattle.up_queue.specs.declared.item.Item.{Item}
 use Rattle.up_queue.specs.declared.item.Item.TheVariants.{Packet, End}
 use Rattle.up_strand.specs.History.{History, end_by}
@@ -29,13 +27,7 @@ items_sent h lane =
 -- the end that came through the lane of a head whose flow ended so
 abbrev pub end_come : Option Outcome → List PlainItem
 end_come None = []
-end_come (Some outcomes.Whole) = End ends.Whole ∷ []
-end_come (Some outcomes.ReadFault) = End ends.Broken ∷ []
-end_come (Some outcomes.WriteFault) = End ends.Broken ∷ []
-end_come (Some (outcomes.BadFrame offset)) = End ends.Broken ∷ []
-end_come (Some (outcomes.TooLong limit)) = End ends.Broken ∷ []
-end_come (Some outcomes.Broken) = End ends.Broken ∷ []
-end_come (Some outcomes.NoMemory) = End ends.Broken ∷ []
+end_come (Some outcome) = End (end_by false (Some outcome)) ∷ []
 
 -- what came through the lane of a head, in order
 abbrev pub items_come : History → List PlainItem

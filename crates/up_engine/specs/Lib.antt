@@ -1,6 +1,7 @@
 pub mod Begun
 pub mod Carried
 pub mod Counting
+pub mod Engine
 pub mod Entries
 pub mod Flows
 pub mod Joins

@@ -157,11 +157,11 @@ module _ (pipes : List Pipe) (past : ℕ → History) where
   pumps_left loop = count_by (λ pump. pump.ready) loop.pumps
       + count_by (λ pump. pump.blockers == 0) loop.pumps
 
-  -- how many turns are still to come at most, before the next read
+  -- how many turns are still to come at most, before the next step of a source
   abbrev pub turns_left : Pumps → ℕ
   turns_left loop = moves_left * (2 * length (heads pipes) + 1) + pumps_left loop
 
--- so many reads and so many turns, before the next read, are still to come at most
+-- so many steps of sources, and so many turns before the next of them, are still to come at most
 pub record NetEndsWithin {P S K : Type 0} (plain : P → PlainPacket) (reads : S → SourceState)
     (writes : K → SinkState) (net : Net P S K) (read_count turn_count : ℕ) : Type 0 where
   pub pipes : List Pipe
@@ -185,7 +185,8 @@ module _ {P S K : Type 0} (plain : P → PlainPacket) (reads : S → SourceState
     pub on : (head : ℕ) → GoesOn (past head) (now head)
     pub drawn : old.drawn + fed_in_all pipes now ≤ new.drawn + fed_in_all pipes past
 
-  -- a source was read, or there is less to be done before the next read, or nothing at all
+  -- after a step of a source fewer of those are to come; else as many, and there is less to be done
+  -- before the next, or nothing at all
   pub record Turned {F : Type 0} (before after : Net P S K) (old new : StoreState F)
       (turn : Turn) : Type 0 where
     pub went : Went after old new
@@ -200,7 +201,7 @@ module _ {P S K : Type 0} (plain : P → PlainPacket) (reads : S → SourceState
     pub went : Went net old new
     pub over : IsOver net pipes
 
-  -- it went on to the next read, or nothing was to be done
+  -- it went on to the next step of a source, or nothing was to be done
   pub record WentToRead {F : Type 0} (net : Net P S K) (old new : StoreState F)
       (reads_on : Bool) : Type 0 where
     pub went : Went net old new

@@ -45,13 +45,15 @@ abbrev pub answer_of : Result (Unit {0}) NoMemoryFound → List Outcome → List
 answer_of (Ok done) ends tallies = Ended ends tallies
 answer_of (Err refused) ends tallies = NoMemory
 
-module _ {S K : Type 0} (pipes : List Pipe) (rooms : Rooms S K) where
-  -- something is told of each pipe, and there is room for it in an answer that is still empty
-  pub record HaveRoomFor : Type 0 where
-    pub ends : length rooms.results.outcomes.items ≡ length pipes
-    pub sums : length rooms.results.tallies.items ≡ length pipes
-    pub outcomes : rooms.outcomes ≡ record { room = length pipes; items = [] }
-    pub tallies : rooms.tallies ≡ record { room = length pipes; items = [] }
+-- they were made for the graph: something is told of each pipe, and there is room for it in an answer
+-- that is still empty
+pub record AreMadeFor {S K : Type 0} (pipes : List Pipe) (rooms : Rooms S K) : Type 0 where
+  pub plan : rooms.plan ≡ plan_of pipes
+  pub order : rooms.order.items ≡ path_places pipes
+  pub ends : length rooms.results.outcomes.items ≡ length pipes
+  pub sums : length rooms.results.tallies.items ≡ length pipes
+  pub outcomes : rooms.outcomes ≡ record { room = length pipes; items = [] }
+  pub tallies : rooms.tallies ≡ record { room = length pipes; items = [] }
 
 -- what was open in these rooms was closed, which changes no sum
 module _ {S K : Type 0} (reads : S → SourceState) (writes : K → SinkState) (pipes : List Pipe)

@@ -4,7 +4,8 @@ use std::marker::{Model, PhantomData};
 
 /// What comes to an end.
 pub(crate) trait HasEnd {
-    /// So many reads and so many turns, before the next read, are still to come at most.
+    /// So many steps of sources, and so many turns before the next of them, are still to come at
+    /// most.
     ghost ends_within: { Self → ℕ → ℕ → Type 0 };
 }
 

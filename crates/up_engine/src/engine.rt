@@ -1,11 +1,11 @@
-ghost use Rattle.std.specs.Prelude.{◌≡◌, ℕ, List, length, All, IfSome, OnOk};
+ghost use Rattle.std.specs.Prelude.{◌≡◌, ℕ, length, All, OnOk};
 ghost use Rattle.up_engine.specs.Carried.{CarriedBy, CarriedShort};
+ghost use Rattle.up_engine.specs.Engine.{CanClose, OpenedIn, TakesTurns, WhereAll};
 ghost use Rattle.up_engine.specs.Entries.{path_places};
-ghost use Rattle.up_engine.specs.Objects.{AreOpen, AreThere};
-ghost use Rattle.up_engine.specs.Rooms.{AreClosed, AreRoomsOf, HaveRoomFor, IsNone, answer_of};
+ghost use Rattle.up_engine.specs.Objects.{AreThere};
+ghost use Rattle.up_engine.specs.Rooms.{AreClosed, AreMadeFor, AreRoomsOf, IsNone};
 ghost use Rattle.up_engine.specs.Runs.{RanGraph, Ways, fault_of};
 ghost use Rattle.up_model.specs.WellFormed.{IsWellFormed};
-ghost use Rattle.up_outside.specs.declared.asked.Entry.{Entry as TheEntry};
 ghost use Rattle.up_plan.specs.Plan.{plan_of};
 ghost use Rattle.up_shape.specs.Stores.{Stays};
 
@@ -37,56 +37,90 @@ pub fn run_one_thread<P: LocalPacket, D: Depot>(
         (P.Store.state store.old) (P.Store.state store.new) result }
     ensures store { Stays (P.Store.state store.old) (P.Store.state store.new) }
 {
-    match Rooms::of(alloc, graph) {
-        Ok(mut rooms) => {
-            let carried = run_in::<P, D>(alloc, graph, depot, store, &mut rooms);
-            rooms.end(carried)
-        }
-        Err(NoMemory) => RunOutcome::NoMemory,
-    }
+    let mut rooms = match Rooms::of(alloc, graph) {
+        Ok(rooms) => rooms,
+        Err(NoMemory) => return RunOutcome::NoMemory,
+    };
+    let opened = open(graph, depot, &mut rooms);
+    let carried = turns::<P, D::Src, D::Snk>(alloc, graph, opened, store, &mut rooms);
+    close(graph, depot, &mut rooms);
+    rooms.end(carried)
 }
 
-/// Runs a graph in these rooms, where it leaves nothing open.
-fn run_in<P: LocalPacket, D: Depot>(
-    alloc: Global,
-    graph: &Graph,
-    depot: &mut D,
-    store: &mut P::Store,
-    rooms: &mut Rooms<D::Src, D::Snk>,
-) -> Result<(), NoMemory>
+/// Opens the paths of the sources, then of the sinks, in the order of the file, up to the first
+/// that is refused, whose pipe then has a fault.
+fn open<D: Depot>(graph: &Graph, depot: &mut D, rooms: &mut Rooms<D::Src, D::Snk>) -> Opening
     requires well_formed { IsWellFormed graph.now.pipes }
     requires rooms { AreRoomsOf graph.now.pipes rooms.old }
-    ensures ran { RanGraph graph.now.pipes (D.state depot.old) (D.state depot.new)
-        (P.Store.state store.old) (P.Store.state store.new)
-        (answer_of result rooms.new.results.outcomes.items rooms.new.results.tallies.items) }
-    ensures room { HaveRoomFor graph.now.pipes rooms.new }
-    ensures none { All IsNone rooms.new.table.items }
-    ensures store { Stays (P.Store.state store.old) (P.Store.state store.new) }
+    ensures opened { OpenedIn D.Src.state D.Snk.state graph.now.pipes
+        (D.state depot.old) (D.state depot.new) rooms.new result }
+    ensures rooms { AreMadeFor graph.now.pipes rooms.new }
 {
-    match open_all(graph, &rooms.order, depot, &mut rooms.table) {
-        Opening::All => {
-            let carried = carry_all::<P, D::Src, D::Snk>(
-                alloc,
-                graph,
-                &rooms.plan,
-                &mut rooms.table,
-                &mut rooms.results,
-                store,
-            );
-            close_rooms(graph, depot, rooms);
-            carried
-        }
+    let opening = open_all(graph, &rooms.order, depot, &mut rooms.table);
+    match opening {
+        Opening::All => {}
         Opening::Refused { place } => {
             let at = usize::from(place);
             rooms.results.outcomes[at] = fault_of(&graph.pipes.at(at).kind);
-            close_rooms(graph, depot, rooms);
-            Ok(())
         }
-        Opening::NoMemory => {
-            close_rooms(graph, depot, rooms);
-            Err(NoMemory)
-        }
+        Opening::NoMemory => {}
     }
+    opening
+}
+
+/// Carries what the sources give until every strand is done, and gives the strands up, so that
+/// what was open stands in the table again. Where not all paths were opened nothing runs.
+fn turns<P: LocalPacket, S: Source, K: Sink>(
+    alloc: Global,
+    graph: &Graph,
+    opened: Opening,
+    store: &mut P::Store,
+    rooms: &mut Rooms<S, K>,
+) -> Result<(), NoMemory>
+    requires well_formed { IsWellFormed graph.now.pipes }
+    requires rooms { AreMadeFor graph.now.pipes rooms.old }
+    requires open { WhereAll opened (AreThere S.state K.state graph.now.pipes
+        (length (path_places graph.now.pipes)) rooms.old.table.items) }
+    ensures turned { TakesTurns S.state K.state graph.now.pipes rooms.old rooms.new
+        (P.Store.state store.old) (P.Store.state store.new) opened result }
+    ensures rooms { AreMadeFor graph.now.pipes rooms.new }
+    ensures store { Stays (P.Store.state store.old) (P.Store.state store.new) }
+{
+    match opened {
+        Opening::All => carry_all::<P, S, K>(
+            alloc,
+            graph,
+            &rooms.plan,
+            &mut rooms.table,
+            &mut rooms.results,
+            store,
+        ),
+        Opening::Refused { .. } => Ok(()),
+        Opening::NoMemory => Err(NoMemory),
+    }
+}
+
+/// Closes the sources that are open, then the sinks, in the order of the file. A sink whose close
+/// is refused has a write fault, where its pipe has no cause of its own.
+fn close<D: Depot>(graph: &Graph, depot: &mut D, rooms: &mut Rooms<D::Src, D::Snk>)
+    requires well_formed { IsWellFormed graph.now.pipes }
+    requires rooms { AreMadeFor graph.now.pipes rooms.old }
+    requires open { CanClose D.Src.state D.Snk.state graph.now.pipes
+        (D.state depot.old) rooms.old.table.items }
+    ensures closed { (count : ℕ)
+        → AreThere D.Src.state D.Snk.state graph.now.pipes count rooms.old.table.items
+        → AreClosed D.Src.state D.Snk.state graph.now.pipes count rooms.old rooms.new
+        (D.state depot.old) (D.state depot.new) }
+    ensures rooms { AreMadeFor graph.now.pipes rooms.new }
+    ensures none { All IsNone rooms.new.table.items }
+{
+    close_all(
+        graph,
+        &rooms.order,
+        depot,
+        &mut rooms.table,
+        &mut rooms.results.outcomes,
+    );
 }
 
 /// Carries what the sources give. Want of memory of which an outcome tells is that of the run.
@@ -116,31 +150,6 @@ fn carry_all<P: LocalPacket, S: Source, K: Sink>(
         return Err(NoMemory);
     }
     Ok(())
-}
-
-/// Closes what is open in these rooms.
-fn close_rooms<D: Depot>(graph: &Graph, depot: &mut D, rooms: &mut Rooms<D::Src, D::Snk>)
-    requires well_formed { IsWellFormed graph.now.pipes }
-    requires order { rooms.old.order.items ≡ path_places graph.now.pipes }
-    requires there { (count : ℕ)
-        × AreThere D.Src.state D.Snk.state graph.now.pipes count rooms.old.table.items
-        × IfSome (D.state depot.old).asked (λ asked. (first : List TheEntry)
-        × AreOpen D.Src.state D.Snk.state graph.now.pipes count rooms.old.table.items first asked) }
-    requires room { HaveRoomFor graph.now.pipes rooms.old }
-    ensures closes { (count : ℕ)
-        → AreThere D.Src.state D.Snk.state graph.now.pipes count rooms.old.table.items
-        → AreClosed D.Src.state D.Snk.state graph.now.pipes count rooms.old rooms.new
-        (D.state depot.old) (D.state depot.new) }
-    ensures room { HaveRoomFor graph.now.pipes rooms.new }
-    ensures none { All IsNone rooms.new.table.items }
-{
-    close_all(
-        graph,
-        &rooms.order,
-        depot,
-        &mut rooms.table,
-        &mut rooms.results.outcomes,
-    );
 }
 
 /// The fault of a pipe whose path couldn't be opened.

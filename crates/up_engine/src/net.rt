@@ -37,7 +37,8 @@ pub(crate) struct Net<P, S, K> {
 /// What a turn did.
 #[derive(Clone, Copy, Debug, PartialEq, Eq)]
 pub(crate) enum Turn {
-    /// A strand read of its source.
+    /// A strand took a step of its source: bytes came, a packet of those that had come was put out,
+    /// or its flow ended.
     Read,
     /// An item went into a lane or came out of one, or a strand waits from now on.
     Moved,
@@ -69,7 +70,8 @@ impl<P: LocalPacket, S: Source, K: Sink> Net<P, S, K> {
         let _ = ahead;
     }
 
-    /// Takes turns until a source was read, or every strand is done, which it tells by `false`.
+    /// Takes turns until a strand took a step of its source, or every strand is done, which it tells
+    /// by `false`.
     fn run_to_read(&mut self, s: &mut P::Store) -> bool
         requires stands { NetStandsForSome P.plain S.state K.state self.old }
         requires family { NetFits self.old P.fits (P.Store.state s.old).family }
