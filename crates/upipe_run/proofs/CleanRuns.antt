@@ -39,6 +39,7 @@ use Rattle.upipe_run.specs.Tells.{TellsEnding}
 use Rattle.upipe_run.specs.declared.ending.Ending.{Ending}
 use Rattle.upipe_run.specs.declared.ending.Ending.TheVariants as endings
 use Rattle.upipe_run.proofs.Drained.{told_status}
+use Rattle.upipe_run.proofs.Decided.{HasPath}
 use Rattle.upipe_run.proofs.Deciding.{each_told, no_cause, none_decides}
 use Rattle.upipe_run.proofs.RanFiles.{paths_within, refused_told}
 use Rattle.upipe_run.proofs.RunLaws.{moved_by, refusal_status, same_entries}
@@ -52,10 +53,6 @@ count_none test (x ∷ xs) none = let first = none x in let later = count_none t
 neither : (one other : Bool) → (one ≡ true → other ≡ false) → (one && other) ≡ false
 neither true other none = none refl
 neither false other none = refl
-
--- the kinds that have a path
-abbrev HasPath : Kind → Type 0
-HasPath kind = (is_source kind ≡ true) ⊎ (is_sink kind ≡ true)
 
 module _ (pipes : List Pipe) where
   passing_end : (test : PipeTest) (place : ℕ) (pipe : Pipe) → slice_get pipes place ≡ Some pipe → passes_at test pipes place ≡ true → test pipes place pipe ≡ true

@@ -1,5 +1,5 @@
 -- What the pipe that decides a run says of it.
-use Rattle.std.proofs.Common.{◌≡◌, ℕ, ◌<◌, List, [], length, map, get_or, cond, Bool, true, false, Option, Some, None, slice_get, refl, sym, ap, ◌∙◌, arith, inl, inr, count_by}
+use Rattle.std.proofs.Common.{◌≡◌, ◌⊎◌, ℕ, ◌<◌, List, [], length, map, get_or, cond, Bool, true, false, Option, Some, None, slice_get, refl, sym, ap, ◌∙◌, arith, inl, inr, count_by}
 use Rattle.std.specs.Prelude.{unwrap_or}
 use Rattle.std.specs.List.{Contains}
 use Rattle.std.specs.Option.{option_map_or}
@@ -34,6 +34,10 @@ use Rattle.upipe_run.specs.declared.ending.Ending.{Ending}
 use Rattle.upipe_run.specs.declared.ending.Ending.TheVariants as endings
 use Rattle.upipe_run.proofs.Deciding.{each_told}
 use Rattle.upipe_run.proofs.RanFiles.{WentThrough}
+
+-- the kinds that have a path
+abbrev pub HasPath : Kind → Type 0
+HasPath kind = (is_source kind ≡ true) ⊎ (is_sink kind ≡ true)
 
 -- a fault is that of a pipe of the graph
 pub record Decided (pipes : List Pipe) (outcome : RunOutcome) (fault : Fault) : Type 0 where
@@ -229,6 +233,20 @@ module _ {F : Type 0} (pipes : List Pipe) (old new : DepotState) (drew draws : S
     pub source : IsToldBy pipe.kind (run.ways.failed place) (run.ways.given place) told
     pub earlier : (other : ℕ) (one : Pipe) → other < place → slice_get pipes other ≡ Some one → is_cause (ending pipes run.ways other) ≡ false
 
+  -- a run that went through, in which a call on the path of a pipe failed; no pipe before it has a cause
+  pub record RanFailed : Type 0 where
+    pub run : WentThrough pipes old new drew draws
+    pub place : ℕ
+    pub pipe : Pipe
+    pub at : slice_get pipes place ≡ Some pipe
+    pub has_path : HasPath pipe.kind
+    pub failed : run.ways.failed place ≡ true
+    pub earlier : (other : ℕ) (one : Pipe) → other < place → slice_get pipes other ≡ Some one → is_cause (ending pipes run.ways other) ≡ false
+
+  -- a run whose open was refused
+  abbrev pub WasRefused : Type 0
+  WasRefused = (ends : List Outcome) × (tallies : List Tally) × StoppedThere pipes old new ends tallies
+
   module _ (outcome : RunOutcome) (ran : RanGraph pipes old new drew draws outcome) where
     pub read_rose : (name : List ℕ) → endings.Faulty (faults.Read name) ≡ ending_of pipes outcome → Rose old.source_faults new.source_faults
     read_rose name so =
@@ -247,6 +265,38 @@ module _ {F : Type 0} (pipes : List Pipe) (old new : DepotState) (drew draws : S
           | inl (ways, through) ↦ write_through ways by.ends by.tallies through by.place by.pipe by.at fault
           | inr stopped ↦ rose_once _ _ _ (counted by.ends by.tallies stopped by.place by.pipe by.at is_write_fault WriteFault refl fault) stopped.sinks
         ]
+
+    -- where it is a read or a write, a call on the path of that pipe failed in a run that went through, or an open was refused
+    failed_by : (fault : Fault) → endings.Faulty fault ≡ ending_of pipes outcome
+        → ((kind : Kind) (failed : Bool) (bytes : List ℕ) (source : Outcome) → unwrap_or (own_outcome kind failed bytes) (outcome_behind source) ≡ outcome_told (endings.Faulty fault)
+        → HasPath kind × (failed ≡ true)) → RanFailed ⊎ WasRefused
+    failed_by fault so of_path =
+        let by = decided pipes outcome fault so in
+        let told = told_back by.pipe _ fault by.told in
+        elim (rw by.ended at ran.to) [
+          | inl (ways, through) ↦
+              let is = of_path by.pipe.kind _ _ _ (came ways by.ends by.tallies through by.place by.pipe by.at _ told) in
+              inl (record {
+                run = record { ways = ways; ends = by.ends; tallies = by.tallies; through = through };
+                place = by.place;
+                pipe = by.pipe;
+                at = by.at;
+                has_path = is.0;
+                failed = is.1;
+                earlier = λ other one below there.
+                    let same = ends_at pipes (ending pipes ways) by.ends other through.endings (slice_get_within pipes other one there) in
+                    ap is_cause (sym same) ∙ by.first other below;
+              })
+          | inr stopped ↦ inr (by.ends, by.tallies, stopped)
+        ]
+
+    pub read_failed : (name : List ℕ) → endings.Faulty (faults.Read name) ≡ ending_of pipes outcome → RanFailed ⊎ WasRefused
+    read_failed name so = failed_by (faults.Read name) so
+        (λ kind failed bytes source is. let of_source = read_of_source kind failed bytes source is in (inl of_source.0, of_source.1))
+
+    pub write_failed : (name : List ℕ) → endings.Faulty (faults.Write name) ≡ ending_of pipes outcome → RanFailed ⊎ WasRefused
+    write_failed name so = failed_by (faults.Write name) so
+        (λ kind failed bytes source is. let of_sink = write_of_sink kind failed bytes source is in (inr of_sink.0, of_sink.1))
 
     -- where the fault that is told is one of bytes, the run went through
     pub ran_told : (fault : Fault) → is_cause (outcome_told (endings.Faulty fault)) ≡ true → is_of_bytes (outcome_told (endings.Faulty fault)) ≡ true

@@ -1,8 +1,9 @@
 -- What a run tells of a source's bytes, and that it tells the first of them that have a cause.
-use Rattle.std.proofs.Common.{◌≡◌, ◌⊎◌, inl, inr, ℕ, ◌<◌, ◌≤◌, List, true, slice_get, Some, IfSome, Ok, refl, sym, ap, subst, ◌∙◌, arith}
+use Rattle.std.proofs.Common.{◌≡◌, ◌⊎◌, inl, inr, ℕ, ◌<◌, ◌≤◌, List, true, slice_get, Some, IfSome, Ok, Err, refl, sym, ap, subst, ◌∙◌, arith}
 use Rattle.std.specs.FinMap.{get}
 use Rattle.std.proofs.lemmas.Bool.{cases_lt}
 use Rattle.std.proofs.lemmas.Option.{same_Some}
+use Rattle.up_base.specs.declared.refusal.Refusal.TheVariants as refusals
 use Rattle.up_graph.specs.Graph.{graph_of}
 use Rattle.up_model.specs.Outcomes.{is_cause}
 use Rattle.up_model.specs.declared.graph.Graph.{Graph}
@@ -16,7 +17,7 @@ use Rattle.up_report.specs.Lines.{fault_bytes}
 use Rattle.up_report.specs.declared.fault.Fault.{Fault}
 use Rattle.up_report.specs.declared.fault.Fault.TheVariants as faults
 use Rattle.upipe_run.specs.FirstCauses.{ComesFirst, HasOutcome, IsAnswered, TellsFirstAt}
-use Rattle.upipe_run.specs.Runs.{HasCauses, HasGraph, RanFile, Runs, WritesWhole}
+use Rattle.upipe_run.specs.Runs.{HasCauses, HasGraph, RanFile, ReadsFile, Runs, WritesWhole}
 use Rattle.upipe_run.specs.Seen.{Seen}
 use Rattle.upipe_run.specs.Tells.{TellsEnding, TellsFault, WritesLine}
 use Rattle.upipe_run.specs.WholeOutput.{RanWhole}
@@ -124,7 +125,7 @@ module _ (path : List ℕ) (old new : Seen) where
       runs.explained.ending runs.explained.causes runs.explained.fault_text)
 
   -- the status of an outcome that bytes tell
-  abbrev status_by : Outcome → ℕ
+  abbrev pub status_by : Outcome → ℕ
   status_by (outcomes.BadFrame offset) = 6
   status_by (outcomes.TooLong limit) = 8
   status_by outcome = 0
@@ -146,40 +147,49 @@ module _ (path : List ℕ) (old new : Seen) where
         let same : whole.graph ≡ graph = one_graph before path text whole.graph graph (record { text = whole.text; at_path = whole.at_path; reads = whole.reads }) at reads in
         not_whole_too before pipe.kind told first.source cause (whole.so.sources place pipe (ap (λ (g : Graph). slice_get g.pipes place) same ∙ first.stands))
 
-    answered : (ending : Ending) (status : ℕ) → HasCauses path old.depot new.depot ending → TellsEnding old.err new.err ending status → WritesWhole path old new status
-        → (Rose old.depot.source_faults new.depot.source_faults → ⊥) → (Rose old.depot.sink_faults new.depot.sink_faults → ⊥)
+    -- where no read of the graph file failed, and no fault of a pipe's path is told, it is told
+    pub answered : (ending : Ending) (status : ℕ) → HasCauses path old.depot new.depot ending → TellsEnding old.err new.err ending status → WritesWhole path old new status
+        → (ReadsFile path old.depot new.depot new.depot (Err refusals.Failed) → ⊥)
+        → ((name : List ℕ) → RanFile path old.depot new.depot (Faulty (faults.Read name)) → ⊥)
+        → ((name : List ℕ) → RanFile path old.depot new.depot (Faulty (faults.Write name)) → ⊥)
         → (status ≡ status_by told) ⊎ (status ≡ 7)
-    answered Whole status causes tells writes sources sinks =
+    answered Whole status causes tells writes no_graph no_read no_write =
         let left = then_between (RanWhole path) old.depot.held new.depot.held before holds (writes tells.0) in
         absurd (not_whole left.0 left.2)
-    answered NoMemory status causes tells writes sources sinks = inr tells.status_is
-    answered (Faulty faults.Usage) status causes tells writes sources sinks = absurd causes
-    answered (Faulty (faults.Graph refusal)) status causes tells writes sources sinks =
+    answered NoMemory status causes tells writes no_graph no_read no_write = inr tells.status_is
+    answered (Faulty faults.Usage) status causes tells writes no_graph no_read no_write = absurd causes
+    answered (Faulty (faults.Graph refusal)) status causes tells writes no_graph no_read no_write =
         let none = of_told _ old.depot.held before holds causes.first in
         absurd (not_both before path none.text graph none.first (record { text = text; at_path = at; reads = reads }) none.at_path none.refused)
-    answered (Faulty faults.ReadGraph) status causes tells writes sources sinks = absurd (sources (causes.counts.sources.rose refl))
-    answered (Faulty (faults.Read name)) status causes tells writes sources sinks =
-        absurd (sources (rw (read_before path old new _ causes).0 at (read_rose causes.graph.pipes causes.mid new.depot causes.drew causes.draws causes.outcome causes.ran name causes.so)))
-    answered (Faulty (faults.Write name)) status causes tells writes sources sinks =
-        absurd (sinks (rw (read_before path old new _ causes).1 at (write_rose causes.graph.pipes causes.mid new.depot causes.drew causes.draws causes.outcome causes.ran name causes.so)))
-    answered (Faulty faults.WriteReport) status causes tells writes sources sinks = absurd causes
-    answered (Faulty (faults.BadFrame name offset)) status causes tells writes sources sinks =
+    answered (Faulty faults.ReadGraph) status causes tells writes no_graph no_read no_write = absurd (no_graph causes)
+    answered (Faulty (faults.Read name)) status causes tells writes no_graph no_read no_write = absurd (no_read name causes)
+    answered (Faulty (faults.Write name)) status causes tells writes no_graph no_read no_write = absurd (no_write name causes)
+    answered (Faulty faults.WriteReport) status causes tells writes no_graph no_read no_write = absurd causes
+    answered (Faulty (faults.BadFrame name offset)) status causes tells writes no_graph no_read no_write =
         let by = ran_bad causes.graph.pipes causes.mid new.depot causes.drew causes.draws causes.outcome causes.ran name offset causes.so in
         let same : outcomes.BadFrame offset ≡ told = one_told _ name (outcomes.BadFrame offset) refl causes by in
         elim (told_status tells) [ inl six ↦ inl (six ∙ ap status_by same) | inr seven ↦ inr seven ]
-    answered (Faulty (faults.TooLong name limit)) status causes tells writes sources sinks =
+    answered (Faulty (faults.TooLong name limit)) status causes tells writes no_graph no_read no_write =
         let by = ran_long causes.graph.pipes causes.mid new.depot causes.drew causes.draws causes.outcome causes.ran name limit causes.so in
         let same : outcomes.TooLong limit ≡ told = one_told _ name (outcomes.TooLong limit) refl causes by in
         elim (told_status tells) [ inl eight ↦ inl (eight ∙ ap status_by same) | inr seven ↦ inr seven ]
 
+    -- so where no count rose
+    by_counts : (status : ℕ) → Runs path old new status
+        → (Rose old.depot.source_faults new.depot.source_faults → ⊥) → (Rose old.depot.sink_faults new.depot.sink_faults → ⊥)
+        → (status ≡ status_by told) ⊎ (status ≡ 7)
+    by_counts status runs sources sinks =
+        answered runs.explained.ending status runs.explained.causes runs.explained.fault_text runs.whole_output
+        (λ reads. sources (reads.counts.sources.rose refl))
+        (λ name ran. sources (rw (read_before path old new _ ran).0 at (read_rose ran.graph.pipes ran.mid new.depot ran.drew ran.draws ran.outcome ran.ran name ran.so)))
+        (λ name ran. sinks (rw (read_before path old new _ ran).1 at (write_rose ran.graph.pipes ran.mid new.depot ran.drew ran.draws ran.outcome ran.ran name ran.so)))
+
   pub bad_frame_answered : (status : ℕ) → Runs path old new status → IfSome old.depot.held (IsAnswered outcomes.BadFrame 6 path old new status)
   bad_frame_answered status runs = where_held path old new (IsAnswered outcomes.BadFrame 6 path old new status)
       (λ before holds text graph at reads place offset pipe first sources sinks.
-      answered before holds text graph at reads place pipe (outcomes.BadFrame offset) refl first runs.explained.ending status runs.explained.causes runs.explained.fault_text runs.whole_output
-      sources sinks)
+      by_counts before holds text graph at reads place pipe (outcomes.BadFrame offset) refl first status runs sources sinks)
 
   pub too_long_answered : (status : ℕ) → Runs path old new status → IfSome old.depot.held (IsAnswered outcomes.TooLong 8 path old new status)
   too_long_answered status runs = where_held path old new (IsAnswered outcomes.TooLong 8 path old new status)
       (λ before holds text graph at reads place limit pipe first sources sinks.
-      answered before holds text graph at reads place pipe (outcomes.TooLong limit) refl first runs.explained.ending status runs.explained.causes runs.explained.fault_text runs.whole_output
-      sources sinks)
+      by_counts before holds text graph at reads place pipe (outcomes.TooLong limit) refl first status runs sources sinks)

@@ -43,7 +43,7 @@ use Rattle.upipe_run.proofs.RunLaws.{of_told, one_graph}
 use Rattle.upipe_run.proofs.DueFirst.{due_first, prefix_on}
 
 -- what is told stands so
-then_told : {X : Type 0} (R : X → X → Type 0) (a b : Option X) (x y : X) → a ≡ Some x → b ≡ Some y → Then R a b → R x y
+pub then_told : {X : Type 0} (R : X → X → Type 0) (a b : Option X) (x y : X) → a ≡ Some x → b ≡ Some y → Then R a b → R x y
 then_told R a b x y is also change = rw (is, also) at change
 
 -- what is told stays told

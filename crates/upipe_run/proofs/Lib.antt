@@ -1,3 +1,4 @@
+pub mod AnsweredFirst
 pub mod AskedTexts
 pub mod CleanRuns
 pub mod Counting

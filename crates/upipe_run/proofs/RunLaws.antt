@@ -102,7 +102,7 @@ module _ (path : List ℕ) (old new : Seen) where
   read_before ending ran = (ran.read.counts.sources.stays refl, ran.read.counts.sinks.stays refl)
 
   -- what a source gave that stands in a run that went through
-  gave_at : (before : Held) (ending : Ending) → old.depot.held ≡ Some before → (ran : RanFile path old.depot new.depot ending)
+  pub gave_at : (before : Held) (ending : Ending) → old.depot.held ≡ Some before → (ran : RanFile path old.depot new.depot ending)
       → (run : WentThrough ran.graph.pipes ran.mid new.depot ran.drew ran.draws) (place : ℕ) (pipe : Pipe) → slice_get ran.graph.pipes place ≡ Some pipe
       → is_source pipe.kind ≡ true → Gave ran.graph.pipes run.ways before place pipe
   gave_at before ending holds ran run place pipe at source = of_told _ ran.mid.held before (ran.read.held ∙ holds) run.through.gave place pipe at source

@@ -1,5 +1,5 @@
 -- The first source of a graph whose bytes aren't whole, and what a run tells of it.
-use Rattle.std.specs.Prelude.{◌≡◌, ◌⊎◌, ℕ, ◌<◌, List, slice_get, Some}
+use Rattle.std.specs.Prelude.{◌≡◌, ◌⊎◌, ℕ, ◌<◌, ◌≤◌, List, slice_get, Bool, true, false, Some}
 use Rattle.std.specs.FinMap.{get}
 use Rattle.up_model.specs.Outcomes.{outcome_of}
 use Rattle.up_model.specs.declared.graph.Graph.{Graph}
@@ -9,8 +9,12 @@ use Rattle.up_model.specs.declared.outcome.Outcome.{Outcome}
 use Rattle.up_model.specs.declared.pipe.Pipe.{Pipe}
 use Rattle.up_outside.specs.Counts.{Rose}
 use Rattle.up_outside.specs.Held.{Held}
+use Rattle.up_outside.specs.declared.asked.Entry.{Entry}
+use Rattle.up_outside.specs.declared.asked.Mark.{Mark}
+use Rattle.up_outside.specs.declared.asked.Mark.TheVariants.{Refused, Open, Closed}
 use Rattle.up_report.specs.Lines.{fault_bytes}
 use Rattle.up_report.specs.declared.fault.Fault.{Fault}
+use Rattle.upipe_run.specs.Laws.{OpensAll}
 use Rattle.upipe_run.specs.OfGraph.{IsOfGraph, OfGraph}
 use Rattle.upipe_run.specs.Seen.{Seen}
 use Rattle.upipe_run.specs.Tells.{WritesLine}
@@ -53,3 +57,24 @@ IsAnswered outcome wanted path old new status before = OfGraph before path (λ g
     → (Rose old.depot.source_faults new.depot.source_faults → ⊥)
     → (Rose old.depot.sink_faults new.depot.sink_faults → ⊥)
     → (status ≡ wanted) ⊎ (status ≡ 7))
+
+-- a call on it failed, or it isn't closed
+abbrev pub has_failed : Mark → Bool
+has_failed Refused = true
+has_failed Open = true
+has_failed (Closed moved failed shut) = failed
+
+-- all paths of a graph were opened, and no call failed on the graph file or on a pipe up to this place
+pub record IsCleanUpTo (path : List ℕ) (pipes : List Pipe) (place : ℕ) (before after : List Entry)
+    : Type 0 where
+  pub opens : OpensAll path pipes before after
+  pub file : has_failed opens.first ≡ false
+  pub clean : (other : ℕ) → other ≤ place → has_failed (opens.marks other) ≡ false
+
+-- where a source of the graph at the path comes first with the outcome, and no call failed up to it, whatever failed behind it,
+-- the status is this, or memory ran out
+abbrev pub IsAnsweredFirst : (ℕ → Outcome) → ℕ → List ℕ → List Entry → List Entry → ℕ
+    → Held → Type 0
+IsAnsweredFirst outcome wanted path asked after status before = OfGraph before path (λ graph.
+    (place number : ℕ) (pipe : Pipe) → ComesFirst before graph.pipes place pipe (outcome number)
+    → IsCleanUpTo path graph.pipes place asked after → (status ≡ wanted) ⊎ (status ≡ 7))

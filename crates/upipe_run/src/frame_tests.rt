@@ -9,12 +9,12 @@ use std::thread::Threads;
 use up_outside::{DepotCall, Mark, MemDepot, MemSink};
 
 /// The frames of the packets `ab` and `c`.
-const AB_AND_C: [u8; 19] = [
+pub(crate) const AB_AND_C: [u8; 19] = [
     0x46, 1, 0, 0, 0, 0, 0, 2, 0x61, 0x62, 0x46, 1, 0, 0, 0, 0, 0, 1, 0x63,
 ];
 
 /// The frame of `ab`.
-const AB: [u8; 10] = [0x46, 1, 0, 0, 0, 0, 0, 2, 0x61, 0x62];
+pub(crate) const AB: [u8; 10] = [0x46, 1, 0, 0, 0, 0, 0, 2, 0x61, 0x62];
 
 /// The frame of `ab`, and the first three bytes of one.
 const AB_AND_A_REST: [u8; 13] = [0x46, 1, 0, 0, 0, 0, 0, 2, 0x61, 0x62, 0x46, 1, 0];
@@ -42,7 +42,11 @@ fn whole(left: &'static [u8]) -> Ran {
 }
 
 /// A depot with the graph of these pipes, and these bytes at `i`.
-fn pipes_depot(alloc: Global, pipes: &[&'static str], given: &[u8]) -> Result<MemDepot, Fail> {
+pub(crate) fn pipes_depot(
+    alloc: Global,
+    pipes: &[&'static str],
+    given: &[u8],
+) -> Result<MemDepot, Fail> {
     let text = pipes_text(alloc, pipes, 0, 1)?;
     let mut depot = depot_of(alloc, text.as_bytes())?;
     depot.hold("i", given)?;
@@ -50,12 +54,12 @@ fn pipes_depot(alloc: Global, pipes: &[&'static str], given: &[u8]) -> Result<Me
 }
 
 /// These bytes are the others.
-fn assert_bytes(rt: &impl Abort, bytes: &[u8], wanted: &[u8]) {
+pub(crate) fn assert_bytes(rt: &impl Abort, bytes: &[u8], wanted: &[u8]) {
     assert_eq!(rt; bytes, wanted);
 }
 
 /// These bytes lie at the path.
-fn assert_holds(rt: &impl Abort, depot: &MemDepot, path: &str, wanted: &[u8]) {
+pub(crate) fn assert_holds(rt: &impl Abort, depot: &MemDepot, path: &str, wanted: &[u8]) {
     assert_eq!(rt; depot.bytes(path), Some(wanted), "{path}");
 }
 

@@ -5,7 +5,7 @@ ghost use Rattle.up_outside.specs.Held.{Held};
 ghost use Rattle.up_outside.specs.Told.{Then};
 ghost use Rattle.up_outside.specs.declared.asked.Entry.{Entry as TheEntry};
 ghost use Rattle.up_report.specs.declared.fault.Fault.TheVariants as faults;
-ghost use Rattle.upipe_run.specs.FirstCauses.{IsAnswered, TellsFirstAt};
+ghost use Rattle.upipe_run.specs.FirstCauses.{IsAnswered, IsAnsweredFirst, TellsFirstAt};
 ghost use Rattle.upipe_run.specs.Laws.{AsksAll, Completes, IsRunStatus, LeavesFirst, RanClean, SettlesStatus};
 ghost use Rattle.upipe_run.specs.Runs.{Runs};
 ghost use Rattle.upipe_run.specs.Seen.{Seen};
@@ -44,12 +44,21 @@ pub fn runs_tell_of_bytes()
 {}
 
 /// Where the first source in the order of the file whose bytes aren't whole has a bad frame, and no count rose, a run
-/// answers 6, or memory ran out; where it is too long, 8.
+/// answers 6, or memory ran out; where it is too long, 8. So it does where all paths were opened and no call failed up to
+/// that source, whatever failed behind it.
 pub fn first_causes_are_answered()
     ensures bad_frame { (path : List ℕ) (old new : Seen) (status : ℕ) → Runs path old new status
         → IfSome old.depot.held (IsAnswered outcomes.BadFrame 6 path old new status) }
     ensures too_long { (path : List ℕ) (old new : Seen) (status : ℕ) → Runs path old new status
         → IfSome old.depot.held (IsAnswered outcomes.TooLong 8 path old new status) }
+    ensures bad_frame_first { (path : List ℕ) (old new : Seen) (status : ℕ)
+        (asked after : List TheEntry) → Runs path old new status
+        → old.depot.asked ≡ Some asked → new.depot.asked ≡ Some after → IfSome old.depot.held
+        (IsAnsweredFirst outcomes.BadFrame 6 path asked after status) }
+    ensures too_long_first { (path : List ℕ) (old new : Seen) (status : ℕ)
+        (asked after : List TheEntry) → Runs path old new status
+        → old.depot.asked ≡ Some asked → new.depot.asked ≡ Some after → IfSome old.depot.held
+        (IsAnsweredFirst outcomes.TooLong 8 path asked after status) }
 {}
 
 /// Where a run answers 0, each pipe came to a whole end, every path was closed without a fault, the graph file's too, and

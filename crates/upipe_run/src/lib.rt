@@ -21,6 +21,10 @@ mod fault_tests;
 #[cfg(test)]
 mod frame_tests;
 #[cfg(test)]
+mod frame_write_tests;
+#[cfg(test)]
+mod great_frame_tests;
+#[cfg(test)]
 mod kind_tests;
 #[cfg(test)]
 mod tell_tests;
