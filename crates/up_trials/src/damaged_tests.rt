@@ -103,7 +103,7 @@ fn each_byte_of_a_frame_changed_is_told_as_it_is_found(rt: HostRuntime) -> Resul
             count = count.saturating_add(usize::from(is_bad));
         }
     }
-    assert!(rt; count > 80, "only {count} bad frames");
+    assert_eq!(rt; count, 96);
     Ok(())
 }
 

@@ -157,8 +157,9 @@ fn damaged_at(place: usize, byte: u8, offset: usize, shown: usize) -> Damage {
     }
 }
 
-/// A mark, a version, a count of attributes, a count of bytes, the length of a name, a byte of a name, a name that isn't
-/// greater than the one before, a type, the length of a value, a flag, a text.
+/// Of the first frame a mark, a name that isn't greater than the one before, a flag and a text; of the second a mark, a
+/// version, a count of attributes and one of bytes; of the third the length of a name, a byte of a name, a type and the
+/// length of a value; of the last a mark and a count of bytes.
 fn damages() -> [Damage; 14] {
     [
         damaged_at(0, 0x47, 0, 1),

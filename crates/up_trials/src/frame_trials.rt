@@ -59,17 +59,9 @@ impl Frames<'_> {
         }
     }
 
-    /// How many bytes there are before the read that fails, if the end doesn't come before.
-    fn read_before(&self, calls: Calls) -> Option<usize> {
-        match calls.failing {
-            Some(nth) => read_before(self.bytes.len(), usize::MAX, calls.cut, nth),
-            None => None,
-        }
-    }
-
-    /// How a source that may give so many bytes is to end, and how many bytes there are of the frames that it carries.
-    fn ending(&self, limit: u64, calls: Calls) -> (usize, Outcome) {
-        let failed = self.read_before(calls);
+    /// How a source that may give so many bytes is to end, where a read fails behind so many, and how many bytes there are
+    /// of the frames that it carries.
+    pub fn ending(&self, limit: u64, failed: Option<usize>) -> (usize, Outcome) {
         let count = failed.unwrap_or(self.bytes.len());
         let within = count.min(limit as usize);
         let front = front_within(self.ends, within);
@@ -88,6 +80,14 @@ impl Frames<'_> {
             return (front, Outcome::BadFrame { offset });
         }
         (front, Outcome::Whole)
+    }
+}
+
+/// How many of the bytes there are before the read that fails, if the end doesn't come before.
+fn read_before_fault(bytes: &[u8], calls: Calls) -> Option<usize> {
+    match calls.failing {
+        Some(nth) => read_before(bytes.len(), usize::MAX, calls.cut, nth),
+        None => None,
     }
 }
 
@@ -158,9 +158,12 @@ pub(crate) fn run_frames(
 {
     let mut depot = depot_of(alloc, frames.bytes, calls)?;
     let ran = run_graph(rt, alloc, split, &mut depot);
-    let (front, ended) = frames.ending(limit, calls);
-    let bytes = &frames.bytes[..front.min(frames.bytes.len())];
-    let carried = Carried { bytes, ended };
+    let (front, ended) = frames.ending(limit, read_before_fault(frames.bytes, calls));
+    let carried = Carried {
+        bytes: &frames.bytes[..front.min(frames.bytes.len())],
+        ended,
+        flags: false,
+    };
     for place in 0..split.graph.pipes.len() {
         assert_pipe(rt, alloc, split, &carried, &ran, &depot, place);
     }

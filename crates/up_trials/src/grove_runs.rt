@@ -2,6 +2,7 @@
 ghost use Rattle.up_model.specs.WellFormed.{IsWellFormed};
 
 use crate::before_faults::{read_before, written_before};
+use crate::frame_trials::Frames;
 use crate::graph_runs::{Ran, run_graph};
 use crate::made_groves::Tree;
 use crate::slow_strands::{Carried, wanted_at};
@@ -53,31 +54,69 @@ pub(crate) fn places_on(alloc: Global, split: &Split, side: Side) -> Result<Vec<
     Ok(places)
 }
 
-/// What the source at a place carries of its tree, where a read of it may fail.
-fn carried_of<'a>(
+/// What a source carries, and how many bytes its reads give.
+#[derive(Clone, Copy)]
+struct Given<'a> {
+    carried: Carried<'a>,
+    moved: u64,
+}
+
+/// How many bytes of its tree a source reads before a read that fails, if the end doesn't come before.
+fn read_of(
+    rt: &impl Abort,
+    split: &Split,
+    tree: &Tree,
+    manner: Manner,
+    source: usize,
+) -> Option<usize> {
+    let nth = manner.nth(DepotCall::Read, source)?;
+    let block = match tree.ends {
+        Some(_) => usize::MAX,
+        None => split.block_at(rt, source),
+    };
+    read_before(tree.bytes.as_slice().len(), block, manner.cut, nth)
+}
+
+/// How many of the bytes of its tree a source carries, and how it ends, where a read fails behind so many.
+fn ending_of(tree: &Tree, read: Option<usize>) -> (usize, Outcome) {
+    let (bytes, limit) = (tree.bytes.as_slice(), tree.limit);
+    if let Some(ends) = &tree.ends {
+        let broken = None;
+        return Frames {
+            bytes,
+            ends,
+            broken,
+        }
+        .ending(limit, read);
+    }
+    match read {
+        Some(count) => (count, Outcome::ReadFault),
+        None if limit < bytes.len() as u64 => (limit as usize, Outcome::TooLong { limit }),
+        None => (bytes.len(), Outcome::Whole),
+    }
+}
+
+/// What the source at a place gives of its tree: of a tree that is past its limit one byte more than that is read.
+fn given_of<'a>(
     rt: &impl Abort,
     split: &Split,
     tree: &'a Tree,
     manner: Manner,
     source: usize,
-) -> Carried<'a> {
+) -> Given<'a> {
     let bytes = tree.bytes.as_slice();
-    let all = bytes.len();
-    let block = split.block_at(rt, source);
-    let read = match manner.nth(DepotCall::Read, source) {
-        Some(nth) => read_before(all, block, manner.cut, nth),
-        None => None,
+    let read = read_of(rt, split, tree, manner, source);
+    let (count, ended) = ending_of(tree, read);
+    let moved = match ended {
+        Outcome::TooLong { limit } => limit.saturating_add(1),
+        _ => read.unwrap_or(bytes.len()) as u64,
     };
-    let limit = tree.limit;
-    let (count, ended) = match read {
-        Some(count) => (count, Outcome::ReadFault),
-        None if limit < all as u64 => (limit as usize, Outcome::TooLong { limit }),
-        None => (all, Outcome::Whole),
-    };
-    Carried {
-        bytes: &bytes[..count.min(all)],
+    let carried = Carried {
+        bytes: &bytes[..count.min(bytes.len())],
         ended,
-    }
+        flags: false,
+    };
+    Given { carried, moved }
 }
 
 /// What a run is to leave of a pipe: of a sink what lies at its path, and of all that have a path how many bytes moved and
@@ -91,30 +130,24 @@ struct Due {
     failed: bool,
 }
 
-/// What is due of a source that carries this, and which reads one byte past its limit.
-fn moved_by(carried: &Carried<'_>) -> u64 {
-    let count = carried.bytes.len() as u64;
-    match carried.ended {
-        Outcome::TooLong { .. } => count.saturating_add(1),
-        _ => count,
-    }
-}
-
-/// What is due of the pipe at a place behind a source that carries this.
+/// What is due of the pipe at a place behind a source that gives this.
 fn due_of(
     rt: &impl Abort,
     alloc: Global,
     split: &Split,
     manner: Manner,
-    carried: &Carried<'_>,
+    given: &Given<'_>,
     place: usize,
 ) -> Result<Due, Fail>
     requires well_formed { IsWellFormed split.now.graph.pipes }
 {
-    let wanted = wanted_at(rt, alloc, split, carried, place);
+    let wanted = wanted_at(rt, alloc, split, &given.carried, place);
     let all = wanted.written.as_slice();
     let before = match manner.nth(DepotCall::Write, place) {
-        Some(nth) => written_before(&wanted.sent, manner.cut, nth),
+        Some(nth) => {
+            let form = split.sink_form_at(rt, place);
+            written_before(form, &wanted.sent, manner.cut, nth)
+        }
         None => None,
     };
     let count = before.unwrap_or(all.len()).min(all.len());
@@ -127,12 +160,8 @@ fn due_of(
         },
         sums: wanted.sums,
         written: Bytes::from_slice(alloc, &all[..count])?,
-        moved: if is_source {
-            moved_by(carried)
-        } else {
-            count as u64
-        },
-        failed: before.is_some() || is_source && carried.ended == Outcome::ReadFault,
+        moved: if is_source { given.moved } else { count as u64 },
+        failed: before.is_some() || is_source && given.carried.ended == Outcome::ReadFault,
     })
 }
 
@@ -154,8 +183,8 @@ fn dues_of(
         let k = sources.iter().position(|other| *other == source);
         let k = k.expect(rt, "no tree");
         assert!(rt; k < trees.len());
-        let carried = carried_of(rt, split, &trees[k], manner, source);
-        dues.push(due_of(rt, alloc, split, manner, &carried, place)?)?;
+        let given = given_of(rt, split, &trees[k], manner, source);
+        dues.push(due_of(rt, alloc, split, manner, &given, place)?)?;
     }
     Ok(dues)
 }

@@ -14,7 +14,7 @@ pub(crate) struct LentPacket<'a> {
     pub owner: &'a str,
 }
 
-/// A store of such packets, in which only so many rooms are made.
+/// A store of such packets, in which only so many rooms and fresh packets are made.
 #[derive(Drop)]
 pub(crate) struct LentStore<'a> {
     store: VecStore,
@@ -28,7 +28,7 @@ impl<'a> LentStore<'a> {
         LentStore::with_rooms(alloc, owner, usize::MAX)
     }
 
-    /// The same, in which so many rooms are made and all others are refused.
+    /// The same, in which so many rooms and fresh packets are made and all others are refused.
     pub fn with_rooms(alloc: Global, owner: &'a str, rooms: usize) -> LentStore<'a> {
         LentStore {
             store: VecStore::new(alloc),
@@ -120,6 +120,10 @@ impl<'a> LocalPacket for LentPacket<'a> {
     }
 
     fn fresh(bytes: &[u8], s: &mut LentStore<'a>) -> Result<LentPacket<'a>, NoMemory> {
+        if s.rooms == 0 {
+            return Err(NoMemory);
+        }
+        s.rooms -= 1;
         let packet = VecPacket::fresh(bytes, &mut s.store)?;
         Ok(s.packet(packet))
     }

@@ -36,6 +36,8 @@ mod limit_tests;
 #[cfg(test)]
 mod listing_depot;
 #[cfg(test)]
+mod made_frames;
+#[cfg(test)]
 mod made_groves;
 #[cfg(test)]
 mod made_trees;
@@ -57,6 +59,8 @@ mod run;
 mod same;
 #[cfg(test)]
 mod sent;
+#[cfg(test)]
+mod short_frame_tests;
 #[cfg(test)]
 mod short_graph_tests;
 #[cfg(test)]

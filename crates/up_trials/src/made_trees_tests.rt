@@ -176,6 +176,7 @@ fn run_end(rt: &impl Abort, alloc: Global, split: &Split, bytes: &[u8]) -> Resul
     let carried = Carried {
         bytes,
         ended: Outcome::Whole,
+        flags: true,
     };
     let wanted = wanted_of(rt, alloc, split, &carried);
     for cut in CUTS {
@@ -237,6 +238,7 @@ fn run_fault(
     let carried = Carried {
         bytes: &bytes[..count],
         ended,
+        flags: true,
     };
     let wanted = wanted_of(rt, alloc, split, &carried);
     let mut depot = depot_of(rt, alloc, split, cut, Some(nth), bytes)?;
@@ -318,6 +320,7 @@ fn run_limit(
     let carried = Carried {
         bytes: &bytes[..bytes.len().min(limit as usize)],
         ended,
+        flags: true,
     };
     let split = made(rt, alloc, seed, limit)?;
     let wanted = wanted_of(rt, alloc, &split, &carried);

@@ -2,11 +2,6 @@
 use std::fmt::Debug;
 use std::process::Abort;
 
-/// Both are the same.
-pub(crate) fn assert_same<T: PartialEq + Debug + Drop>(rt: &impl Abort, left: T, right: T) {
-    assert_eq!(rt; left, right);
-}
-
 /// Both are the same, in the case of this number.
 pub(crate) fn assert_same_at<T: PartialEq + Debug + Drop>(
     rt: &impl Abort,

@@ -17,11 +17,12 @@ use up_model::{
 };
 use up_queue::{EndKind, Item};
 
-/// The bytes that the first source carried, and how its flow ended.
+/// The bytes that a source carried, how its flow ended, and whether packets are given flags in lanes.
 #[derive(Clone, Copy)]
 pub(crate) struct Carried<'a> {
     pub bytes: &'a [u8],
     pub ended: Outcome,
+    pub flags: bool,
 }
 
 impl Carried<'_> {
@@ -85,7 +86,11 @@ fn flow_within(
         None => PacketList::new(alloc),
         Some(input) => flow_within(rt, alloc, split, carried, steps - 1, usize::from(input)),
     };
-    let taken = come_to(rt, alloc, split, place, sent);
+    let taken = if carried.flags {
+        come_to(rt, alloc, split, place, sent)
+    } else {
+        sent
+    };
     put_of(rt, alloc, split, carried, place, &taken)
 }
 
@@ -230,7 +235,7 @@ pub(crate) struct Wanted {
 pub(crate) type WantedList = ItemList<Wanted>;
 
 /// What the pipe at a place is to come to where its source carried this. The flags that packets
-/// are given in lanes change no byte and no count.
+/// are given in lanes change no byte and no count of a graph without sinks of frames.
 pub(crate) fn wanted_at(
     rt: &impl Abort,
     alloc: Global,

@@ -22,26 +22,24 @@ use up_plan::{Plan, make_plan};
 use up_shape::LocalPacket;
 use up_strand::{SinkList, Strand, StrandParts};
 
+fn source_of(alloc: Global, path: &str, form: SourceForm, limit: u64) -> Result<Kind, Fail> {
+    let path = Text::from_str(alloc, path)?;
+    Ok(Kind::Source { path, form, limit })
+}
+
+fn sink_of(alloc: Global, path: &str, form: SinkForm) -> Result<Kind, Fail> {
+    let path = Text::from_str(alloc, path)?;
+    Ok(Kind::Sink { path, form })
+}
+
 fn kind_of(alloc: Global, does: Does, path: &str) -> Result<Kind, Fail> {
     Ok(match does {
-        Does::Source { block, limit } => Kind::Source {
-            path: Text::from_str(alloc, path)?,
-            form: SourceForm::Raw { block },
-            limit,
-        },
-        Does::Frames { limit } => Kind::Source {
-            path: Text::from_str(alloc, path)?,
-            form: SourceForm::Framed,
-            limit,
-        },
-        Does::Sink => Kind::Sink {
-            path: Text::from_str(alloc, path)?,
-            form: SinkForm::Raw,
-        },
-        Does::FrameSink => Kind::Sink {
-            path: Text::from_str(alloc, path)?,
-            form: SinkForm::Framed,
-        },
+        Does::Source { block, limit } => {
+            source_of(alloc, path, SourceForm::Raw { block }, limit)?
+        }
+        Does::Frames { limit } => source_of(alloc, path, SourceForm::Framed, limit)?,
+        Does::Sink => sink_of(alloc, path, SinkForm::Raw)?,
+        Does::FrameSink => sink_of(alloc, path, SinkForm::Framed)?,
         Does::Idem => Kind::Idem,
         Does::Null => Kind::Null,
         Does::Dup => Kind::Dup,
@@ -226,6 +224,15 @@ impl Split {
                 ..
             } => *block as usize,
             _ => panic!(rt; "no raw source"),
+        }
+    }
+
+    /// The form of the sink at a place.
+    pub fn sink_form_at(&self, rt: &impl Abort, place: usize) -> SinkForm {
+        assert!(rt; place < self.graph.pipes.len());
+        match &self.graph.pipes.at(place).kind {
+            Kind::Sink { form, .. } => *form,
+            _ => panic!(rt; "no sink"),
         }
     }
 
